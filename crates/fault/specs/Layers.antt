@@ -1,0 +1,10 @@
+-- The printed names of the layers. Assumes nothing.
+use mathlib.Core.List.{List}
+use Prim.Native.Nat.{ℕ}
+use lib.Chars.{codes}
+use Rattle.fault.specs.declared.Layer.{Layer}
+use Rattle.fault.specs.declared.Layer.the-variants.{Lock}
+
+-- the bytes of a layer's name
+abbrev pub layer-name : Layer → List ℕ
+layer-name Lock = codes "lock"

@@ -1,0 +1,4 @@
+pub mod Calls
+pub mod Meaning
+pub mod Pasts
+pub mod Refusals
