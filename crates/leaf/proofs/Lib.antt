@@ -1,0 +1,4 @@
+mod Admitted
+mod BoardKeeps
+mod Obligations
+mod Totals

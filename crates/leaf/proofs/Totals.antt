@@ -1,0 +1,60 @@
+-- Sums over places, and the first place that holds. Assumes nothing.
+use mathlib.Core.Path.{_≡_, refl, sym, ap, _∙_}
+use mathlib.Core.Logic.{_⊎_, inl, inr, ⊎-elim}
+use Prim.Native.Nat.{ℕ, zero, suc, _+_, _<_, _≤_}
+use native.Mathlib.Omega.{arith}
+use Rattle.std.proofs.shelf.Tests.{cases-eq}
+use Rattle.std.specs.declared.option.Option.{Option}
+use Rattle.std.specs.declared.option.Option.the-variants.{Some, None}
+use Rattle.lock.specs.declared.Phase.{Phase}
+use Rattle.lock.specs.declared.Phase.the-variants.{Out, Bidding, Holding, Leaving}
+use Rattle.leaf.specs.Boards.{total, first-holding, or-here}
+
+pub total-same : (f g : ℕ → ℕ) (n : ℕ) → ((p : ℕ) → p < n → g p ≡ f p) → total g n ≡ total f n
+total-same f g zero h = refl
+total-same f g (suc n) h = omega (arith, h n (omega arith), total-same f g n (λ p l. h p (omega arith)))
+
+-- where only place i changes, the sum changes by the difference there
+pub total-changed : (f g : ℕ → ℕ) (n i : ℕ) → i < n → ((p : ℕ) → (p ≡ i → ⊥) → g p ≡ f p) → total g n + f i ≡ total f n + g i
+total-changed f g zero i l h = omega (arith, l)
+total-changed f g (suc n) i l h =
+    ⊎-elim
+    (λ (e : i ≡ n).
+    let rest : total g n ≡ total f n = total-same f g n (λ p k. h p (λ (q : p ≡ i). omega arith)) in
+    let f-here = ap f e in
+    let g-here = ap g e in
+    omega arith)
+    (λ (ne : i ≡ n → ⊥).
+    let here = h n (λ (q : n ≡ i). ne (sym q)) in
+    let rest = total-changed f g n i (omega (arith, ne)) h in
+    omega arith)
+    (cases-eq i n)
+
+named-here : (f : ℕ → Phase) (n p : ℕ) (o : Option ℕ) (g : Phase) → (o ≡ Some p → f p ≡ Holding) → f n ≡ g → or-here o g n ≡ Some p → f p ≡ Holding
+named-here f n p (Some q) g before here e = before e
+named-here f n p None Out before here e = cc
+named-here f n p None Bidding before here e = cc
+named-here f n p None Holding before here e = let same : n ≡ p = cc in ap f (sym same) ∙ here
+named-here f n p None Leaving before here e = cc
+
+-- the first place that holds does hold
+pub first-holds : (f : ℕ → Phase) (n p : ℕ) → first-holding f n ≡ Some p → f p ≡ Holding
+first-holds f zero p e = cc
+first-holds f (suc n) p e = named-here f n p (first-holding f n) (f n) (first-holds f n p) refl e
+
+found-here : (f : ℕ → Phase) (n p : ℕ) (o : Option ℕ) (g : Phase) → ((q : ℕ) → o ≡ Some q → q ≡ p) → f n ≡ g → f p ≡ Holding → (n ≡ p) ⊎ (o ≡ Some p) → or-here o g n ≡ Some p
+found-here f n p (Some q) g only here h w = ap Some (only q refl)
+found-here f n p None Out only here h w = ⊎-elim (λ (e : n ≡ p). let k = ap f e in cc) (λ (e : None ≡ Some p). cc) w
+found-here f n p None Bidding only here h w = ⊎-elim (λ (e : n ≡ p). let k = ap f e in cc) (λ (e : None ≡ Some p). cc) w
+found-here f n p None Holding only here h w = ⊎-elim (λ (e : n ≡ p). ap Some e) (λ (e : None ≡ Some p). cc) w
+found-here f n p None Leaving only here h w = ⊎-elim (λ (e : n ≡ p). let k = ap f e in cc) (λ (e : None ≡ Some p). cc) w
+
+-- where at most one place holds, one that does is the first
+pub holds-first : (f : ℕ → Phase) (n p : ℕ) → ((q : ℕ) → f q ≡ Holding → q ≡ p) → p < n → f p ≡ Holding → first-holding f n ≡ Some p
+holds-first f zero p only l h = absurd (omega (arith, l))
+holds-first f (suc n) p only l h =
+    found-here f n p (first-holding f n) (f n) (λ q e. only q (first-holds f n q e)) refl h
+    (⊎-elim
+    (λ (e : n ≡ p). inl e)
+    (λ (ne : n ≡ p → ⊥). inr (holds-first f n p only (omega (arith, l, ne)) h))
+    (cases-eq n p))

@@ -1,0 +1,4 @@
+mod peterson;
+
+pub use peterson::Peterson;
+pub use peterson::PetersonLock;
