@@ -4,7 +4,7 @@ use mathlib.Core.Bool.{Bool, true, false, cond}
 use mathlib.Core.Logic.{⊎-elim}
 use mathlib.Core.List.{List}
 use lib.Dec.{eqb, ltb}
-use lib.ListN.{length, getD, set, take, length-set}
+use lib.ListN.{length, getD, set, take, replicate, length-set, length-replicate}
 use Prim.Native.Nat.{ℕ, zero, suc, _+_, _<_, _≤_}
 use native.Mathlib.Omega.{arith}
 use borrow.Author.Needs.{needs}
@@ -123,6 +123,21 @@ tidy-made A b p x w n tidy few =
       all-boxes = omega (arith, tidy .all-boxes, length-set (b .boxes) p x);
       all-registers = omega (arith, tidy .all-registers, length-written (b .registers) w);
       few-bids = few;
+    }
+
+getD-blank : {Y : Type 0} (n k : ℕ) (y : Y) → getD (replicate n y) k y ≡ y
+getD-blank zero k y = refl
+getD-blank (suc n) zero y = refl
+getD-blank (suc n) (suc k) y = getD-blank n k y
+
+-- a board of n boxes that are out and m registers at 0 is just made
+pub blank-made : {X : Type 0} (A : Algorithm X) (n m : ℕ) → A .places ≤ n → A .register-count ≤ m → Blank A (record { boxes = replicate n (A .out); registers = replicate m 0; bids = 0 })
+blank-made A n m enough room =
+    record {
+      tidy = record { all-boxes = omega (arith, enough, length-replicate n (A .out)); all-registers = omega (arith, room, length-replicate {A = ℕ} m 0); few-bids = omega arith };
+      no-bids = refl;
+      all-out = λ p. getD-blank n p (A .out);
+      all-zero = λ k. getD-blank m k 0;
     }
 
 module _ {X : Type 0} (A : Algorithm X) (Sound : Board X → Type 0) (correct : Correct A Sound) where

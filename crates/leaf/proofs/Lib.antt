@@ -1,4 +1,5 @@
 mod Admitted
 mod BoardKeeps
 mod Obligations
+mod PetersonCorrect
 mod Totals

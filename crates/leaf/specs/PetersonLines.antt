@@ -127,12 +127,18 @@ line-of b i = box-at peterson b i .line
 abbrev pub register-of : Board BoxRecord → ℕ → ℕ
 register-of b k = getD (b .registers) k 0
 
-pub record Invariant (b : Board BoxRecord) : Type 0 where
+-- what holds of box p at line l and its rival, box q at line l′, with the registers f
+pub record Rivals (p q : ℕ) (l l′ : Line) (f : ℕ → ℕ) : Type 0 where
   -- each W tells whether its box is past line 1
-  pub flags : (i : ℕ) → i < 2 → register-of b i ≡ flag (line-of b i)
-  pub turn : register-of b 2 < 2
+  pub own-flag : f p ≡ flag l
+  pub rival-flag : f q ≡ flag l′
+  pub turn : f 2 < 2
   -- while a box is inside and the other contends, P is the number of the one inside
-  pub order : (i : ℕ) → i < 2 → inside (line-of b i) ≡ true → contends (line-of b (1 - i)) ≡ true → register-of b 2 ≡ i
+  pub own-order : inside l ≡ true → contends l′ ≡ true → f 2 ≡ p
+  pub rival-order : inside l′ ≡ true → contends l ≡ true → f 2 ≡ q
+
+abbrev pub Invariant : Board BoxRecord → Type 0
+Invariant b = Rivals 0 1 (line-of b 0) (line-of b 1) (register-of b)
 
 abbrev pub PetersonSound : Peterson → Type 0
 PetersonSound s = Tidy peterson (peterson-board s) × Invariant (peterson-board s)

@@ -1,4 +1,7 @@
+mod bye;
 mod peterson;
 
+pub use bye::Bye;
+pub use bye::ByeLock;
 pub use peterson::Peterson;
 pub use peterson::PetersonLock;
