@@ -1,5 +1,7 @@
 mod Admitted
 mod BoardKeeps
+mod ByeCorrect
+mod Follows
 mod Obligations
 mod PetersonCorrect
 mod Totals

@@ -1,6 +1,7 @@
 ghost use mathlib.Core.Path.{_≡_};
 ghost use Rattle.leaf.specs.ByeLines.{bye-meaning, ByeTakes, bye-made, ByeSound};
 use lock::Answer;
+use lock::BID_LIMIT;
 use lock::Lock;
 use lock::Phase;
 use lock::Refusal;
@@ -41,7 +42,7 @@ pub impl Lock for Bye as ByeLock {
         let Phase::Out = self.phase else {
             return Err(Refusal::WrongPhase);
         };
-        if self.bids >= 1_000_000 {
+        if self.bids >= BID_LIMIT {
             return Err(Refusal::BidsSpent);
         }
         self.phase = Phase::Bidding;

@@ -1,4 +1,5 @@
 mod bye;
+pub mod examples;
 mod peterson;
 
 pub use bye::Bye;

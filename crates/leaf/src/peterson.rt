@@ -1,6 +1,7 @@
 ghost use mathlib.Core.Path.{_≡_};
 ghost use Rattle.leaf.specs.PetersonLines.{line-phase, peterson-meaning, PetersonTakes, peterson-made, PetersonSound};
 use lock::Answer;
+use lock::BID_LIMIT;
 use lock::Lock;
 use lock::Phase;
 use lock::Refusal;
@@ -79,7 +80,7 @@ pub impl Lock for Peterson as PetersonLock {
         let Line::Out = self.boxes[place].line else {
             return Err(Refusal::WrongPhase);
         };
-        if self.bids >= 1_000_000 {
+        if self.bids >= BID_LIMIT {
             return Err(Refusal::BidsSpent);
         }
         self.boxes[place].line = Line::One;

@@ -9,6 +9,9 @@ ghost use Rattle.lock.specs.Refusals.{refusal-number, refusal-byte, refusal-la
 use fault::Fault;
 use fault::Layer;
 
+/// How many bids a lock takes between two makings.
+pub const BID_LIMIT: u32 = 1_000_000;
+
 /// Where a place stands.
 #[derive(Clone, Copy)]
 pub enum Phase {
