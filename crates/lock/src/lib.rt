@@ -1,5 +1,7 @@
 ghost use mathlib.Core.Path.{_≡_};
 ghost use lib.ListN.{length};
+ghost use Prim.Native.Nat.{ℕ, _<_, _≤_};
+ghost use Rattle.std.specs.declared.option.Option.the-variants.{Some};
 ghost use Rattle.lock.specs.declared.Call.{Call as Called};
 ghost use Rattle.lock.specs.declared.Reply.{Reply as Replied};
 ghost use Rattle.lock.specs.Calls.{bid-by, step-by, leave-by, taken-or, answered-or};
@@ -144,19 +146,22 @@ pub trait Lock {
 
     /// The place that holds, or nobody.
     fn holder(&self) -> Option<usize>
-        ensures { λ r. ⌜ r ≡ meaning (now (self .entry)) .holder ⌝ };
+        ensures value { λ r. ⌜ r ≡ meaning (now (self .entry)) .holder ⌝ }
+        ensures within { λ r. ⌜ ((p : ℕ) → r ≡ Some p → p < meaning (now (self .entry)) .places) ⌝ };
 
     /// How many bids the lock has taken since its making.
     fn bids(&self) -> u32
         ensures { λ r. ⌜ r ≡ meaning (now (self .entry)) .bids ⌝ };
 
-    /// How many places the lock has.
+    /// How many places the lock has, 1 to 64.
     fn places(&self) -> usize
-        ensures { λ r. ⌜ r ≡ meaning (now (self .entry)) .places ⌝ };
+        ensures value { λ r. ⌜ r ≡ meaning (now (self .entry)) .places ⌝ }
+        ensures bound { λ r. ⌜ 1 ≤ r ⌝ ∗ ⌜ r ≤ 64 ⌝ };
 
-    /// How many registers the lock has.
+    /// How many registers the lock has, 4,096 at most.
     fn register_count(&self) -> usize
-        ensures { λ r. ⌜ r ≡ length (meaning (now (self .entry)) .registers) ⌝ };
+        ensures value { λ r. ⌜ r ≡ length (meaning (now (self .entry)) .registers) ⌝ }
+        ensures bound { λ r. ⌜ r ≤ 4096 ⌝ };
 
     /// What a register holds, absent where there is no such register.
     fn register(&self, index: usize) -> Option<u32>
