@@ -16,23 +16,23 @@ use words::word_of_kind;
 
 // Both boxes bid, box 0 enters first, and box 1 waits until it is out again. Box 1 once tries to
 // leave before it holds.
-const CONTEST: [Call; 16] = [
-    Call { kind: Kind::Bid, place: 0 },
-    Call { kind: Kind::Bid, place: 1 },
-    Call { kind: Kind::Step, place: 0 },
-    Call { kind: Kind::Step, place: 1 },
-    Call { kind: Kind::Step, place: 0 },
-    Call { kind: Kind::Step, place: 1 },
-    Call { kind: Kind::Step, place: 1 },
-    Call { kind: Kind::Step, place: 0 },
-    Call { kind: Kind::Step, place: 1 },
-    Call { kind: Kind::Leave, place: 1 },
-    Call { kind: Kind::Leave, place: 0 },
-    Call { kind: Kind::Step, place: 0 },
-    Call { kind: Kind::Step, place: 1 },
-    Call { kind: Kind::Step, place: 1 },
-    Call { kind: Kind::Leave, place: 1 },
-    Call { kind: Kind::Step, place: 1 },
+const CONTEST: [(Kind, usize); 16] = [
+    (Kind::Bid, 0),
+    (Kind::Bid, 1),
+    (Kind::Step, 0),
+    (Kind::Step, 1),
+    (Kind::Step, 0),
+    (Kind::Step, 1),
+    (Kind::Step, 1),
+    (Kind::Step, 0),
+    (Kind::Step, 1),
+    (Kind::Leave, 1),
+    (Kind::Leave, 0),
+    (Kind::Step, 0),
+    (Kind::Step, 1),
+    (Kind::Step, 1),
+    (Kind::Leave, 1),
+    (Kind::Step, 1),
 ];
 
 fn print_call(rt: &LibcRuntime, call: Call, reply: Reply) -> io::Result<()> {
@@ -78,7 +78,8 @@ fn print_phases<L: Lock>(rt: &LibcRuntime, lock: &L) -> io::Result<()> {
 
 fn main(rt: LibcRuntime) -> io::Result<()> {
     let mut lock = Peterson::new();
-    for call in CONTEST {
+    for (kind, place) in CONTEST {
+        let call = Call { kind, place };
         let reply = call_on(&mut lock, call);
         print_call(&rt, call, reply)?;
     }

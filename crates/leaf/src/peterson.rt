@@ -10,6 +10,7 @@ const PLACES: usize = 2;
 
 // The register numbers: W0 and W1 stand at their places, and P behind them.
 const P: usize = 2;
+
 const REGISTERS: usize = 3;
 
 /// Where a box stands in the algorithm.
@@ -56,7 +57,11 @@ impl Peterson {
     pub fn new() -> Peterson
         ensures { λ r. ⌜ r ≡ peterson-made ⌝ }
     {
-        Peterson { boxes: [BoxRecord { line: Line::Out }; PLACES], registers: [0; REGISTERS], bids: 0 }
+        Peterson {
+            boxes: [BoxRecord { line: Line::Out }; PLACES],
+            registers: [0; REGISTERS],
+            bids: 0,
+        }
     }
 }
 
@@ -97,40 +102,27 @@ pub impl Lock for Peterson as PetersonLock {
             Line::Four => self.registers[1 - place],
             _ => 0,
         };
-        match (self.boxes[place].line, read) {
+        let (next, answer) = match (self.boxes[place].line, read) {
             (Line::One, _) => {
-                self.boxes[place].line = Line::Two;
                 self.registers[place] = 1;
-                Ok(Answer::Moves)
+                (Line::Two, Answer::Moves)
             }
             (Line::Two, _) => {
-                self.boxes[place].line = Line::Three;
                 self.registers[P] = 1 - place as u32;
-                Ok(Answer::Moves)
+                (Line::Three, Answer::Moves)
             }
-            (Line::Three, turn) if turn == place as u32 => {
-                self.boxes[place].line = Line::Holding;
-                Ok(Answer::Enters)
-            }
-            (Line::Three, _) => {
-                self.boxes[place].line = Line::Four;
-                Ok(Answer::Waits)
-            }
-            (Line::Four, 0) => {
-                self.boxes[place].line = Line::Holding;
-                Ok(Answer::Enters)
-            }
-            (Line::Four, _) => {
-                self.boxes[place].line = Line::Three;
-                Ok(Answer::Waits)
-            }
+            (Line::Three, turn) if turn == place as u32 => (Line::Holding, Answer::Enters),
+            (Line::Three, _) => (Line::Four, Answer::Waits),
+            (Line::Four, 0) => (Line::Holding, Answer::Enters),
+            (Line::Four, _) => (Line::Three, Answer::Waits),
             (Line::Leaving, _) => {
-                self.boxes[place].line = Line::Out;
                 self.registers[place] = 0;
-                Ok(Answer::Out)
+                (Line::Out, Answer::Out)
             }
-            (Line::Out | Line::Holding, _) => Err(Refusal::WrongPhase),
-        }
+            (Line::Out | Line::Holding, _) => return Err(Refusal::WrongPhase),
+        };
+        self.boxes[place].line = next;
+        Ok(answer)
     }
 
     fn leave(&mut self, place: usize) -> Result<(), Refusal> {
@@ -168,8 +160,8 @@ pub impl Lock for Peterson as PetersonLock {
     }
 
     fn register_count(&self) -> usize {
-        let all: &[u32] = &self.registers;
-        all.len()
+        let registers: &[u32] = &self.registers;
+        registers.len()
     }
 
     fn register(&self, index: usize) -> Option<u32> {
