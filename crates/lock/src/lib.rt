@@ -113,15 +113,23 @@ impl Reply {
 }
 
 /// A lock for a fixed number of places. At most one place holds it.
+///
+/// Every method may be called at any time, for any place. A call that is refused leaves the lock
+/// as it was.
 pub trait Lock {
+    // What others may know of the lock: sizes, phases, holder, bids, registers, credit and marks.
     ghost meaning: { Self → Meaning };
 
+    // `takes s c r t`: the call c on s returns r and leaves t.
     ghost takes: { Self → Called → Replied → Self → Type 0 };
 
+    // The lock as its making left it.
     ghost made: { Self → Self };
 
+    // The lock's own invariant, which every past keeps.
     ghost sound: { Self → Type 0 };
 
+    // How calls may change the meaning: what each lock owes.
     law keeps: { Keeps meaning takes made sound };
 
     /// Makes the lock anew: all places out, no bids taken, each register 0, sizes as they were.
@@ -169,6 +177,10 @@ pub trait Lock {
 }
 
 /// Makes one call on any lock.
+///
+/// Its contract also has the promises that hold of the lock after every past: n, S and M stay, the
+/// answers derive from the past, at most one place holds, some active place gets on, and no
+/// stretch takes more than M calls that neither wait nor enter.
 pub fn call_on<L: Lock>(lock: &mut L, call: Call) -> Reply
     ensures outcome { λ r. ⌜ L·Lock .takes (now (lock .entry)) call r (now (lock .exit)) ⌝ }
     ensures promises { λ _. ⌜ Promises (L·Lock .meaning) (L·Lock .takes) (L·Lock .made) ⌝ }
