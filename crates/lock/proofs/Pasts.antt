@@ -21,7 +21,7 @@ use Rattle.lock.specs.declared.Refusal.{Refusal}
 use Rattle.lock.specs.declared.Reply.{Reply}
 use Rattle.lock.specs.declared.Reply.the-variants.{Taken, Answered, Refused}
 use Rattle.lock.specs.Meaning.{Meaning, Keeps, Changes, Accepted, Stepped, Waited, Turns, SamePhases, SameSize, Active, MarkWaited, shut, open-after, refusal-of, phase-answer}
-use Rattle.lock.specs.Pasts.{Event, is-wait, is-entry, is-refusal, phase-after, phase-from, waits, work, onto-first, stretches, Run, Past, Fixed, PhasesDerive, HolderDerives, OneHolder, Progress, Economy, Promises}
+use Rattle.lock.specs.Pasts.{Event, is-wait, is-entry, is-refusal, phase-after, phase-from, waits, work-of, work, onto-first, stretches, Run, Past, Fixed, PhasesDerive, HolderDerives, OneHolder, Progress, Economy, Promises}
 
 -- the phase of place p after a call for place q
 abbrev phase-at : ℕ → ℕ → Kind → Reply → Phase → Phase
@@ -57,10 +57,6 @@ phase-accepted m m′ Leave q r h p = rw (h .reply) (turned m m′ q Leaving p (
 phase-changed : (m m′ : Meaning) (c : Call) (r : Reply) (o : Option Refusal) → Changes o m c r m′ → (p : ℕ) → m′ .phase p ≡ phase-at p (c .place) (c .kind) r (m .phase p)
 phase-changed m m′ c r None h p = phase-accepted m m′ (c .kind) (c .place) r (h .0) p
 phase-changed m m′ c r (Some e) h p = rw (h .0) (phase-refused m m′ (c .place) (c .kind) e (h .1) p)
-
--- whether a reply is one that a stretch counts, as a number
-abbrev work-of : Reply → ℕ
-work-of r = cond (is-refusal r || is-wait r || is-entry r) 0 1
 
 spent-stepped : (m m′ : Meaning) (q : ℕ) (a : Answer) → Stepped m q a m′ → is-entry (Answered a) ≡ false → work-of (Answered a) + m′ .credit ≤ m .credit
 spent-stepped m m′ q Waits h n = omega (arith, h .credit)

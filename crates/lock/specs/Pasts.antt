@@ -70,10 +70,14 @@ abbrev pub waits : ℕ → List Event → ℕ
 waits p [] = 0
 waits p (e ∷ es) = cond (eqb p (e .call .place)) (cond (is-wait (e .reply)) 1 0) 0 + waits p es
 
--- accepted calls that neither wait nor enter
+-- 1 for an accepted call that neither waits nor enters
+abbrev pub work-of : Reply → ℕ
+work-of r = cond (is-refusal r || is-wait r || is-entry r) 0 1
+
+-- how many accepted calls neither wait nor enter
 abbrev pub work : List Event → ℕ
 work [] = 0
-work (e ∷ es) = cond (is-refusal (e .reply) || is-wait (e .reply) || is-entry (e .reply)) 0 1 + work es
+work (e ∷ es) = work-of (e .reply) + work es
 
 abbrev pub onto-first : Event → List (List Event) → List (List Event)
 onto-first e [] = (e ∷ []) ∷ []
