@@ -38,23 +38,27 @@ kind-byte Leave = 3
 abbrev pub kind-of : ℕ → BusKind
 kind-of k = cond (eqb k 1) Bid (cond (eqb k 2) Step Leave)
 
+-- the call of two bytes whose kind is 1 to 3
+abbrev pub bus-call : RawCall → BusCall
+bus-call c = record { kind = kind-of (c .kind); place = c .place }
+
+abbrev pub raw-call : BusCall → RawCall
+raw-call c = record { kind = kind-byte (c .kind); place = c .place }
+
 -- the calls that lie one behind the other
 abbrev pub calls-of : List ℕ → List BusCall
 calls-of [] = []
 calls-of (k ∷ []) = []
-calls-of (k ∷ (p ∷ rest)) = record { kind = kind-of k; place = p } ∷ calls-of rest
+calls-of (k ∷ (p ∷ rest)) = bus-call (record { kind = k; place = p }) ∷ calls-of rest
 
 abbrev pub calls-in : List ℕ → List BusCall
 calls-in bs = calls-of (drop 16 bs)
-
-abbrev pub raw-call : BusCall → RawCall
-raw-call c = record { kind = kind-byte (c .kind); place = c .place }
 
 abbrev pub call-bytes : List RawCall → List ℕ
 call-bytes [] = []
 call-bytes (c ∷ cs) = c .kind ∷ (c .place ∷ call-bytes cs)
 
--- the record of these places and calls
+-- the record of n places and these calls
 abbrev pub encode : ℕ → List RawCall → List ℕ
 encode n cs =
     number-bytes n ++ (number-bytes (length cs) ++ (number-bytes 16 ++ (number-bytes (16 + 2 * length cs) ++ call-bytes cs)))

@@ -2,3 +2,4 @@ pub mod Checks
 pub mod Faults
 pub mod Layout
 pub mod Readers
+pub mod RoundTrip

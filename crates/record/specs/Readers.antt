@@ -1,11 +1,15 @@
 -- What a reader holds, what opening a record gives, and how the cursor moves. Assumes nothing.
 use mathlib.Core.Bool.{cond}
-use mathlib.Core.List.{List}
+use mathlib.Core.Path.{_≡_}
+use mathlib.Core.List.{List, _++_}
 use lib.Dec.{ltb}
 use lib.ListN.{length, drop}
 use denote.Ref.{now}
-use Prim.Native.Nat.{ℕ, _+_, _-_, _/_}
+use Prim.Native.Nat.{ℕ, _+_, _-_, _*_, _/_}
 use Rattle.std.specs.Results.{mapped}
+use Rattle.std.specs.Runs.{nth}
+use Rattle.std.specs.Vec.{listOf}
+use Rattle.std.specs.declared.option.Option.{Option}
 use Rattle.std.specs.declared.result.Result.{Result}
 use Rattle.std.specs.declared.result.Result.the-variants.{Ok, Err}
 use Rattle.record.specs.declared.call.BusCall.{BusCall}
@@ -13,7 +17,7 @@ use Rattle.record.specs.declared.faults.RecordFault.{RecordFault}
 use Rattle.record.specs.declared.reader.Header.{Header}
 use Rattle.record.specs.declared.reader.Reader.{Reader}
 use Rattle.record.specs.Checks.{_then_, header-test, reading-test}
-use Rattle.record.specs.Layout.{places-in, call-count-in, calls-of}
+use Rattle.record.specs.Layout.{places-in, call-count-in, calls-of, calls-in}
 
 pub record Reading : Type 0 where
   pub bytes : List ℕ
@@ -61,3 +65,11 @@ moved r = at-byte (cond (ltb (length (r .bytes)) (r .cursor + 2)) (r .cursor) (r
 -- before the first call again
 abbrev pub rewound : Reading → Reading
 rewound r = at-byte 16 r
+
+-- what a call of the reader that was at S returns, and where it leaves the reader
+pub record NextCall (S : Reading) (r : Option BusCall) (T : Reading) : Type 0 where
+  pub call : r ≡ nth (calls-left S) 0
+  pub after : T ≡ moved S
+  pub left : calls-left S ≡ listOf r ++ calls-left T
+  -- where k calls have come, it is the call k of the record
+  pub numbered : (k : ℕ) → S .cursor ≡ 16 + 2 * k → r ≡ nth (calls-in (S .bytes)) k

@@ -1,11 +1,10 @@
 ghost use mathlib.Core.Path.{_≡_};
-ghost use mathlib.Core.List.{_++_, map};
-ghost use Prim.Native.Nat.{ℕ, _+_, _*_, _≤_};
+ghost use Prim.Native.Nat.{_+_, _≤_};
 ghost use lib.ListN.{length};
 ghost use Rattle.std.specs.Results.{Cases};
-ghost use Rattle.std.specs.Runs.{nth};
-ghost use Rattle.record.specs.Layout.{calls-in, kind-of, number-at};
-ghost use Rattle.record.specs.Readers.{reading, header-read, opened, opening, calls-left, moved, rewound, position-of};
+ghost use Rattle.record.specs.Layout.{kind-of, number-at};
+ghost use Rattle.record.specs.RoundTrip.{Sound};
+ghost use Rattle.record.specs.Readers.{reading, header-read, opened, opening, rewound, position-of, NextCall};
 use super::call::BusCall;
 use super::call::BusKind;
 use super::checks::HEADER_LENGTH;
@@ -72,6 +71,7 @@ impl<'a> Reader<'a> {
     /// Opens a record before its first call; refuses with the first test that fails.
     pub fn open(bytes: &'a [u8]) -> Result<Reader<'a>, RecordFault>
         ensures outcome { λ r. ⌜ opened r ≡ opening (now (bytes .entry)) ⌝ }
+        ensures sound { λ r. ⌜ Cases r (λ _. Sound (now (bytes .entry))) (λ _. Unit {0}) ⌝ }
     {
         let header = read_header(bytes)?;
         check_calls(header.places, HEADER_LENGTH, &bytes[HEADER_LENGTH..])?;
@@ -101,8 +101,7 @@ impl<'a> Reader<'a> {
 
     /// The next call, and moves past it; none at the end, where it stays.
     pub fn next_call(&mut self) -> Option<BusCall>
-        ensures call { λ r. ⌜ r ≡ nth (calls-left (reading (now (self .entry)))) 0 ⌝ }
-        ensures after { λ _. ⌜ reading (now (self .exit)) ≡ moved (reading (now (self .entry))) ⌝ }
+        ensures { λ r. ⌜ NextCall (reading (now (self .entry))) r (reading (now (self .exit))) ⌝ }
     {
         let [kind, place, rest @ ..] = self.bytes.get(self.cursor..)? else {
             return None;
