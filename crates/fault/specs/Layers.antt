@@ -3,8 +3,9 @@ use mathlib.Core.List.{List}
 use Prim.Native.Nat.{ℕ}
 use lib.Chars.{codes}
 use Rattle.fault.specs.declared.Layer.{Layer}
-use Rattle.fault.specs.declared.Layer.the-variants.{Lock}
+use Rattle.fault.specs.declared.Layer.the-variants.{Lock, Record}
 
 -- the bytes of a layer's name
 abbrev pub layer-name : Layer → List ℕ
 layer-name Lock = codes "lock"
+layer-name Record = codes "record"

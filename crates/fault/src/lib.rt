@@ -8,6 +8,7 @@ ghost use Rattle.fault.specs.Layers.{layer-name};
 #[derive(Clone, Copy)]
 pub enum Layer {
     Lock,
+    Record,
 }
 
 impl Layer {
@@ -17,6 +18,7 @@ impl Layer {
     {
         match self {
             Layer::Lock => "lock",
+            Layer::Record => "record",
         }
     }
 }

@@ -1,0 +1,5 @@
+mod CallBytes
+mod Numbers
+mod Passing
+mod Sequence
+mod Walk

@@ -1,0 +1,5 @@
+pub mod Checks
+pub mod Faults
+pub mod Layout
+pub mod Readers
+pub mod RoundTrip

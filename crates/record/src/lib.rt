@@ -1,0 +1,11 @@
+mod call;
+mod checks;
+mod faults;
+mod reader;
+
+pub use call::BusCall;
+pub use call::BusKind;
+pub use call::RawCall;
+pub use faults::RecordFault;
+pub use faults::RecordFaultFault;
+pub use reader::Reader;
