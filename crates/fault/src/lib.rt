@@ -9,6 +9,7 @@ ghost use Rattle.fault.specs.Layers.{layer-name};
 pub enum Layer {
     Lock,
     Record,
+    Replay,
 }
 
 impl Layer {
@@ -19,6 +20,7 @@ impl Layer {
         match self {
             Layer::Lock => "lock",
             Layer::Record => "record",
+            Layer::Replay => "replay",
         }
     }
 }

@@ -2,7 +2,7 @@
 use mathlib.Core.Path.{_≡_}
 use mathlib.Core.List.{List, map}
 use lib.ListN.{length}
-use Prim.Native.Nat.{ℕ, _<_}
+use Prim.Native.Nat.{ℕ, _+_, _*_, _<_, _≤_}
 use Rattle.std.specs.shelf.Lists.{All}
 use Rattle.std.specs.declared.result.Result.{Result}
 use Rattle.std.specs.declared.result.Result.the-variants.{Ok}
@@ -22,6 +22,9 @@ decode bs = reading-test bs then Ok (record { places = places-in bs; calls = cal
 
 -- what holds of every record that passes the tests
 pub record Sound (bs : List ℕ) : Type 0 where
+  pub few-places : places-in bs ≤ 64
+  pub few-calls : call-count-in bs ≤ 20000
+  pub whole : length bs ≡ 16 + 2 * call-count-in bs
   pub counted : length (calls-in bs) ≡ call-count-in bs
   pub placed : All (λ c. c .place < places-in bs) (calls-in bs)
   -- writing what was read gives the record

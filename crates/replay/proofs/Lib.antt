@@ -1,3 +1,6 @@
 mod Counting
 mod Gaps
+mod Logs
+mod Opened
 mod Overtakes
+mod SoFar

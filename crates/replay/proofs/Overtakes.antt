@@ -129,22 +129,28 @@ module _ (w : Waiting) (e : Event) (later : List Event) (fair : Fair w) (placed 
     where
       starts : (o : Option ℕ) (n more : ℕ) → more ≤ through n (Some (or-start o n)) more
       starts o n more = grind arith
+
       grows : (o : Option ℕ) (n more : ℕ) → through n o more ≤ through n (Some (or-start o n)) more
       grows o n more = grind arith
+
       held : (o : Option ℕ) (n more k : ℕ) → through n o more ≤ k → more ≤ k → through n (Some (or-start o n)) more ≤ k
       held o n more k h l = grind arith
+
       aged : (o : Option ℕ) (n : ℕ) → Bounded n o → Bounded n (Some (or-start o n))
       aged None n h = omega arith
       aged (Some before) n h = h
+
       bounded : (p : ℕ) → Bounded (w .entries) (slot (bidden w q) p)
       bounded p =
           ⊎-elim
           (λ (same : p ≡ q). rw (same, bid-slot) (aged (slot w q) (w .entries) (fair .bounded q)))
           (λ (ne : p ≡ q → ⊥). let is = bid-others p ne in rw is (fair .bounded p))
           (cases-eq p q)
+
       up : (p : ℕ) → (p ≡ q) ⊎ (p ≡ q → ⊥) → through (w .entries) (slot w p) (overtaken p later) ≤ max (w .most) (pending (bidden w q) p later)
       up p (inl same) = rw (same, bid-slot) (omega (arith, grows (slot w q) (w .entries) (overtaken q later)))
       up p (inr ne) = let is = bid-others p ne in rw is (omega arith)
+
       down : (p k : ℕ) → through (w .entries) (slot w p) (overtaken p later) ≤ k → overtaken q later ≤ k → (p ≡ q) ⊎ (p ≡ q → ⊥) → pending (bidden w q) p later ≤ k
       down p k h bid (inl same) = rw (same, bid-slot) (held (slot w q) (w .entries) (overtaken q later) k (rw same at h) bid)
       down p k h bid (inr ne) = let is = bid-others p ne in rw is h
@@ -175,20 +181,25 @@ module _ (w : Waiting) (e : Event) (later : List Event) (fair : Fair w) (placed 
     where
       settled : (o : Option ℕ) (n k : ℕ) → through n o 0 ≤ k → since n o ≤ k
       settled o n k h = grind arith
+
       settles : (o : Option ℕ) (n : ℕ) → through n o 0 ≤ since n o
       settles o n = grind arith
+
       later-one : (o : Option ℕ) (n more : ℕ) → Bounded n o → through (n + 1) o more ≡ through n o (1 + more)
       later-one None n more h = refl
       later-one (Some before) n more h = omega arith
+
       older : (o : Option ℕ) (n : ℕ) → Bounded n o → Bounded (n + 1) o
       older None n h = tt
       older (Some before) n h = omega arith
+
       bounded : (p : ℕ) → Bounded (w .entries + 1) (slot (entered w q) p)
       bounded p =
           ⊎-elim
           (λ (same : p ≡ q). rw (same, entry-slot) tt)
           (λ (ne : p ≡ q → ⊥). let is = entry-others p ne in rw is (older (slot w p) (w .entries) (fair .bounded p)))
           (cases-eq p q)
+
       up : (p : ℕ) → (p ≡ q) ⊎ (p ≡ q → ⊥) → pending w p (e ∷ later) ≤ max (max (w .most) (since (w .entries) (slot w q))) (pending (entered w q) p later)
       up p (inl same) =
           let none : pending w q (e ∷ later) ≡ through (w .entries) (slot w q) 0 = ap (through (w .entries) (slot w q)) (own-entry t) in
@@ -198,6 +209,7 @@ module _ (w : Waiting) (e : Event) (later : List Event) (fair : Fair w) (placed 
           let is = entry-others p ne in
           let more = ap (through (w .entries) (slot w p)) (other-entry p t ne) in
           rw is (omega (arith, more, later-one (slot w p) (w .entries) (overtaken p later) (fair .bounded p)))
+
       down : (p k : ℕ) → pending w p (e ∷ later) ≤ k → (p ≡ q) ⊎ (p ≡ q → ⊥) → pending (entered w q) p later ≤ k
       down p k h (inl same) = rw (same, entry-slot) (omega arith)
       down p k h (inr ne) =

@@ -1,2 +1,4 @@
+pub mod Faults
+pub mod Replays
 pub mod Reports
 pub mod Running

@@ -11,7 +11,10 @@ use Rattle.lock.specs.declared.Reply.{Reply}
 use Rattle.lock.specs.declared.Call.{Call}
 use Rattle.lock.specs.Pasts.{is-wait, is-entry, is-refusal, work-of}
 use Rattle.replay.specs.declared.report.Counts.{Counts}
+use Rattle.replay.specs.declared.report.Entry.{Entry}
+use Rattle.replay.specs.declared.report.Summary.{Summary}
 use Rattle.replay.specs.declared.running.Stretch.{Stretch}
+use Rattle.replay.specs.declared.running.Tally.{Tally}
 use Rattle.replay.specs.declared.running.Waiting.{Waiting}
 use Rattle.replay.specs.Reports.{is-bid-taken, is-leave-taken, is-move, is-out}
 
@@ -90,3 +93,29 @@ waited w c r =
 -- the most entries that any place has waited through, those still waiting among them
 abbrev pub most-waited : Waiting → ℕ
 most-waited w = folded (λ n o. max n (since (w .entries) o)) (w .most) (w .before)
+
+abbrev pub no-tally : Tally
+no-tally = record { counts = no-counts; stretch = no-stretch; waiting = none-waiting }
+
+-- one call more
+abbrev pub noted : Tally → Call → Reply → Tally
+noted t c r =
+    record {
+      counts = counted (t .counts) (c .kind) r;
+      stretch = stretched (t .stretch) r;
+      waiting = waited (t .waiting) c r;
+    }
+
+-- room for one call more, at a place that a record may have
+pub record Ready (t : Tally) (c : Call) : Type 0 where
+  pub counts : Room (t .counts)
+  pub stretch : t .stretch .length < 1000000
+  pub entries : t .waiting .entries < 1000000
+  pub placed : c .place < 64
+
+abbrev pub summarized : Tally → Summary
+summarized t = record { counts = t .counts; gap = t .stretch .longest; passed = most-waited (t .waiting) }
+
+-- the log after one call more, the k-th, where there are so many entries before
+abbrev pub log-after : List Entry → ℕ → ℕ → Call → Reply → List Entry
+log-after log entries k c r = cond (is-entry r) (set log entries (record { call = k; place = c .place })) log

@@ -1,8 +1,9 @@
 ghost use mathlib.Core.Path.{_≡_};
 ghost use Prim.Native.Nat.{_<_, max};
 ghost use Rattle.std.specs.Iters.{folded};
-ghost use Rattle.replay.specs.Running.{no-counts, counted, Room, no-stretch, stretched, since, none-waiting, bidden, entered, waited, most-waited};
+ghost use Rattle.replay.specs.Running.{no-counts, counted, Room, no-stretch, stretched, since, none-waiting, bidden, entered, waited, most-waited, no-tally, noted, Ready, summarized};
 use super::report::Counts;
+use super::report::Summary;
 use lock::Answer;
 use lock::Call;
 use lock::Kind;
@@ -55,7 +56,10 @@ impl Stretch {
     pub(crate) fn none() -> Stretch
         ensures { λ r. ⌜ r ≡ no-stretch ⌝ }
     {
-        Stretch { length: 0, longest: 0 }
+        Stretch {
+            length: 0,
+            longest: 0,
+        }
     }
 
     pub(crate) fn note(&mut self, reply: Reply)
@@ -63,7 +67,8 @@ impl Stretch {
         ensures { λ _. ⌜ now (self .exit) ≡ stretched (now (self .entry)) reply ⌝ }
     {
         match reply {
-            Reply::Taken | Reply::Answered(Answer::Moves) | Reply::Answered(Answer::Out) => self.length += 1,
+            Reply::Taken | Reply::Answered(Answer::Moves) | Reply::Answered(Answer::Out) =>
+                self.length += 1,
             Reply::Answered(Answer::Enters) => self.length = 0,
             Reply::Answered(Answer::Waits) | Reply::Refused(_) => {}
         }
@@ -155,5 +160,51 @@ impl Waiting {
         ensures { λ r. ⌜ r ≡ most-waited (now (self .entry)) ⌝ }
     {
         most_since(self.entries, self.most, &self.before)
+    }
+}
+
+// All that a replay counts while the calls are made.
+#[derive(Clone, Copy)]
+pub(crate) struct Tally {
+    counts: Counts,
+    stretch: Stretch,
+    waiting: Waiting,
+}
+
+impl Tally {
+    pub(crate) fn none() -> Tally
+        ensures { λ r. ⌜ r ≡ no-tally ⌝ }
+    {
+        Tally {
+            counts: Counts::none(),
+            stretch: Stretch::none(),
+            waiting: Waiting::none(),
+        }
+    }
+
+    pub(crate) fn note(&mut self, call: Call, reply: Reply)
+        requires { ⌜ Ready (now self) call ⌝ }
+        ensures { λ _. ⌜ now (self .exit) ≡ noted (now (self .entry)) call reply ⌝ }
+    {
+        self.counts.note(call.kind, reply);
+        self.stretch.note(reply);
+        self.waiting.note(call, reply);
+    }
+
+    // The entries so far.
+    pub(crate) fn entries(&self) -> usize
+        ensures { λ r. ⌜ r ≡ now (self .entry) .counts .enters ⌝ }
+    {
+        self.counts.enters
+    }
+
+    pub(crate) fn summary(&self) -> Summary
+        ensures { λ r. ⌜ r ≡ summarized (now (self .entry)) ⌝ }
+    {
+        Summary {
+            counts: self.counts,
+            gap: self.stretch.longest(),
+            passed: self.waiting.most(),
+        }
     }
 }
