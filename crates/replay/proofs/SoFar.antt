@@ -159,11 +159,12 @@ module _ {L : Type 0} (meaning : L → Meaning) (takes : L → Call → Reply �
             }
 
     -- the calls of a whole record make the past that is reported
-    pub all-made : (t : L) (number : ℕ) (log : List Entry) (tally : Tally) (reader : Reading) → SoFar s t start number log₀ log tally reader → start .call-count ≤ number → (lock : L) → s ≡ made lock → Economy meaning takes made → (summary : Summary) → summary ≡ summarized tally → Replayed meaning takes made lock t (start .bytes) log₀ log summary
-    all-made t number log tally reader so-far done lock is economy summary sums =
+    pub all-made : (t : L) (number : ℕ) (log : List Entry) (tally : Tally) (reader : Reading) → SoFar s t start number log₀ log tally reader → start .call-count ≤ number → number ≤ start .call-count → (lock : L) → s ≡ made lock → Economy meaning takes made → (n : ℕ) → n ≡ reader .call-count → (summary : Summary) → summary ≡ summarized n tally → Replayed meaning takes made lock t (start .bytes) log₀ log summary
+    all-made t number log tally reader so-far done ends lock is economy n counted summary sums =
         let past : Past meaning takes made lock (so-far .events) t = subst (λ (x : L). Run meaning takes made x (so-far .events) t) is (so-far .run) in
         let all = take-all number (record-calls (start .bytes)) (omega (arith, done, at-start .counted, at-start .sound .counted, length-map (calls-in (start .bytes)) lock-call)) in
-        let report : summary ≡ summary-of (so-far .events) = sums ∙ ap summarized (so-far .tally-is) ∙ (λ i. record { counts = counts-of (so-far .events); gap = gap (so-far .events); passed = passed-is (so-far .events) (so-far .placed) i }) in
+        let many : n ≡ length (so-far .events) = omega (arith, counted, ap (λ (x : Reading). x .call-count) (so-far .reader-is), done, ends, so-far .long) in
+        let report : summary ≡ summary-of (so-far .events) = sums ∙ ap (summarized n) (so-far .tally-is) ∙ (λ i. record { calls = many i; counts = counts-of (so-far .events); gap = gap (so-far .events); passed = passed-is (so-far .events) (so-far .placed) i }) in
         let gap-is : summary .gap ≡ gap (so-far .events) = ap (λ (x : Summary). x .gap) report in
         record {
           events = so-far .events;

@@ -89,7 +89,7 @@ counts-of es =
 
 -- what a replay returns of a past, which has the newest event first
 abbrev pub summary-of : List Event → Summary
-summary-of es = record { counts = counts-of es; gap = gap es; passed = passed es }
+summary-of es = record { calls = length es; counts = counts-of es; gap = gap es; passed = passed es }
 
 -- the entries of a past, the oldest first: the number of the call, counted from 0, and its place
 abbrev pub entries : List Event → List Entry

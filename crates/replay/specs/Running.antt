@@ -113,8 +113,8 @@ pub record Ready (t : Tally) (c : Call) : Type 0 where
   pub entries : t .waiting .entries < 1000000
   pub placed : c .place < 64
 
-abbrev pub summarized : Tally → Summary
-summarized t = record { counts = t .counts; gap = t .stretch .longest; passed = most-waited (t .waiting) }
+abbrev pub summarized : ℕ → Tally → Summary
+summarized n t = record { calls = n; counts = t .counts; gap = t .stretch .longest; passed = most-waited (t .waiting) }
 
 -- the log after one call more, the k-th, where there are so many entries before
 abbrev pub log-after : List Entry → ℕ → ℕ → Call → Reply → List Entry

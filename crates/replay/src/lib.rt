@@ -80,7 +80,7 @@ fn make_calls<L: Lock>(lock: &mut L, mut reader: Reader<'_>, log: &mut [Entry]) 
         };
         make_call(lock, call_asked(call), number, &mut tally, log);
     }
-    tally.summary()
+    tally.summary(reader.calls())
 }
 
 /// Replays the record in these bytes on a lock: puts the lock back, makes each call, and logs the entries from the

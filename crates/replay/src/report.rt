@@ -21,6 +21,8 @@ pub struct Counts {
 /// What a replay reports.
 #[derive(Clone, Copy)]
 pub struct Summary {
+    /// How many calls the record has.
+    pub calls: usize,
     pub counts: Counts,
     /// The most accepted calls in one stretch that neither wait nor enter.
     pub gap: usize,

@@ -198,10 +198,12 @@ impl Tally {
         self.counts.enters
     }
 
-    pub(crate) fn summary(&self) -> Summary
-        ensures { λ r. ⌜ r ≡ summarized (now (self .entry)) ⌝ }
+    // What is reported after so many calls.
+    pub(crate) fn summary(&self, calls: usize) -> Summary
+        ensures { λ r. ⌜ r ≡ summarized calls (now (self .entry)) ⌝ }
     {
         Summary {
+            calls,
             counts: self.counts,
             gap: self.stretch.longest(),
             passed: self.waiting.most(),

@@ -56,4 +56,4 @@ returns g c =
     let k = g .L·Lock in
     all-made (k .meaning) (k .takes) (k .made) (c .put-back .last .self) (reading (c .args .reader)) (c .args .log .now) (c .pre .0) (c .pre .1)
     (c .loop-number .lock) (c .loop-number .number) (c .loop-number .log) (c .loop-number .tally) (reading (c .loop-number .reader)) (c .loop-number .inv)
-    (omega (arith, c .loop-number-test .left, c .calls-number-end .ensures)) (c .args .lock .now) (c .put-back .ensures) (promises (g .L·Lock·met .keeps) .economy) (c .summary .result) (c .summary .ensures)
+    (omega (arith, c .loop-number-test .left, c .calls-number-end .ensures)) (omega (arith, c .loop-number .kept .number-end, c .calls-number-end .ensures)) (c .args .lock .now) (c .put-back .ensures) (promises (g .L·Lock·met .keeps) .economy) (c .calls .result) (c .calls .ensures) (c .summary .result) (c .summary .ensures)
