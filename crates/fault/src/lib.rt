@@ -10,6 +10,7 @@ pub enum Layer {
     Lock,
     Record,
     Replay,
+    Program,
 }
 
 impl Layer {
@@ -21,6 +22,7 @@ impl Layer {
             Layer::Lock => "lock",
             Layer::Record => "record",
             Layer::Replay => "replay",
+            Layer::Program => "program",
         }
     }
 }

@@ -1,0 +1,8 @@
+mod faults;
+mod text;
+
+pub use faults::ProgramFault;
+pub use faults::ProgramFaultFault;
+pub use faults::ProgramFaultFromReplay;
+pub use text::refusal_line;
+pub use text::report_lines;
