@@ -1,3 +1,3 @@
 pub mod Faults
-pub mod Piles
+pub mod Runs
 pub mod Lines

@@ -7,7 +7,7 @@ use lib.ListN.{length, getD, take, length-append}
 use Prim.Native.Nat.{ℕ, zero, suc, _+_, _*_, _≤_, _<_}
 use native.Mathlib.Numerals.{add-one}
 use native.Mathlib.Omega.{arith}
-use Rattle.std.proofs.shelf.Lists.{take-more, take-all, length-map, getD-map, length-take}
+use Rattle.std.proofs.shelf.Lists.{take-all, take-at, length-map}
 use Rattle.std.proofs.shelf.Maps.{nth-getD}
 use Rattle.std.proofs.shelf.Tests.{le-ltb}
 use Rattle.std.specs.Finite.{nth}
@@ -165,12 +165,15 @@ module _ {L : Type 0} (meaning : L → Meaning) (takes : L → Call → Reply �
         let all = take-all number (record-calls (start .bytes)) (omega (arith, done, at-start .counted, at-start .sound .counted, length-map (calls-in (start .bytes)) lock-call)) in
         let many : n ≡ length (so-far .events) = omega (arith, counted, ap (λ (x : Reading). x .call-count) (so-far .reader-is), done, ends, so-far .long) in
         let report : summary ≡ summary-of (so-far .events) = sums ∙ ap (summarized n) (so-far .tally-is) ∙ (λ i. record { calls = many i; counts = counts-of (so-far .events); gap = gap (so-far .events); passed = passed-is (so-far .events) (so-far .placed) i }) in
+        let enters : summary .counts .enters ≡ length (entries (so-far .events)) = ap (λ (x : Summary). x .counts .enters) report ∙ sym (entries-counted (so-far .events)) in
         let gap-is : summary .gap ≡ gap (so-far .events) = ap (λ (x : Summary). x .gap) report in
         record {
           events = so-far .events;
           past = past;
           calls = so-far .calls ∙ all;
           entries = so-far .log-is;
+          room = omega (arith, enters, count-le (λ e. is-entry (e .reply)) (so-far .events), entries-counted (so-far .events), so-far .long, ends, slots);
+          front = rw enters (ap (take (length (entries (so-far .events)))) (so-far .log-is) ∙ take-at (entries (so-far .events)) _ (length (entries (so-far .events))) refl);
           report = report;
           within = omega (arith, gap-is, gap-within (meaning lock .call-limit) (stretches (so-far .events)) (economy lock (so-far .events) t past));
         }

@@ -3,7 +3,7 @@ use mathlib.Core.Path.{_≡_}
 use mathlib.Core.Bool.{cond}
 use mathlib.Core.List.{List, [], _∷_, _++_, map}
 use lib.Dec.{eqb, ltb}
-use lib.ListN.{length}
+use lib.ListN.{length, take}
 use Prim.Native.Nat.{ℕ, _≤_}
 use Rattle.std.specs.declared.result.Result.{Result}
 use Rattle.std.specs.declared.result.Result.the-variants.{Ok, Err}
@@ -25,7 +25,7 @@ use Rattle.replay.specs.declared.faults.ReplayFault.{ReplayFault}
 use Rattle.replay.specs.declared.faults.ReplayFault.the-variants.{OfRecord, OtherPlaces, ShortLog}
 use Rattle.replay.specs.declared.report.Entry.{Entry}
 use Rattle.replay.specs.declared.report.Summary.{Summary}
-use Rattle.replay.specs.Reports.{summary-of, logged}
+use Rattle.replay.specs.Reports.{entries as entries-of, summary-of, logged}
 
 -- a test that the record fails is the outcome; else what comes after it
 abbrev pub carried : Result Unit RecordFault → Result Unit ReplayFault → Result Unit ReplayFault
@@ -68,6 +68,9 @@ module _ {L : Type 0} (meaning : L → Meaning) (takes : L → Call → Reply �
     pub past : Past meaning takes made s events t
     pub calls : calls-made events ≡ record-calls bs
     pub entries : log′ ≡ logged events log
+    -- the entries are the front of the log, as many as are counted
+    pub room : summary .counts .enters ≤ length log
+    pub front : take (summary .counts .enters) log′ ≡ entries-of events
     pub report : summary ≡ summary-of events
     -- the gap is within M
     pub within : summary .gap ≤ meaning s .call-limit

@@ -1,0 +1,56 @@
+-- What the program makes of an input: a refusal, or the report of a replay. Assumes nothing.
+use mathlib.Core.Path.{_≡_}
+use mathlib.Core.Bool.{cond}
+use mathlib.Core.List.{List, [], _∷_}
+use lib.Dec.{eqb}
+use lib.ListN.{take}
+use Prim.Native.Nat.{ℕ}
+use Rattle.std.specs.Of.String.{string-bytes}
+use Rattle.std.specs.Orderings.{When}
+use Rattle.std.specs.declared.option.Option.{Option}
+use Rattle.std.specs.declared.option.Option.the-variants.{Some, None}
+use Rattle.std.specs.declared.result.Result.{Result}
+use Rattle.std.specs.declared.result.Result.the-variants.{Ok, Err}
+use Rattle.lock.specs.declared.Call.{Call}
+use Rattle.lock.specs.declared.Reply.{Reply}
+use Rattle.lock.specs.Meaning.{Meaning}
+use Rattle.lock.specs.Pasts.{Event, Past}
+use Rattle.leaf.specs.PetersonLines.{peterson-meaning, PetersonTakes, peterson-made}
+use Rattle.replay.specs.declared.faults.ReplayFault.{ReplayFault}
+use Rattle.replay.specs.Replays.{replay-test, calls-made, record-calls}
+use Rattle.replay.specs.Reports.{entries, summary-of}
+use Rattle.program.specs.declared.faults.ProgramFault.{ProgramFault}
+use Rattle.program.specs.declared.faults.ProgramFault.the-variants.{OfReplay, NoPile}
+use Rattle.program.specs.declared.runs.Outcome.{Outcome}
+use Rattle.program.specs.declared.runs.Outcome.the-variants.{Report, Refused}
+use Rattle.program.specs.Lines.{report-text}
+
+module _ {L : Type 0} (meaning : L → Meaning) (takes : L → Call → Reply → L → Type 0) (made : L → L) where
+  -- the text reports a past of the lock s that is made of exactly the record's calls in their order
+  pub record Reports (s : L) (pile : ℕ) (bs text : List ℕ) : Type 0 where
+    pub end : L
+    pub events : List Event
+    pub past : Past meaning takes made s events end
+    pub calls : calls-made events ≡ record-calls bs
+    pub lines : text ≡ report-text pile (meaning end) (entries events) (summary-of events)
+
+  -- a record on the lock s with so many slots in the log: refused as a replay refuses it, or reported
+  abbrev pub Played : L → ℕ → List ℕ → ℕ → Outcome → Type 0
+  Played s pile bs slots (Refused e) = (f : ReplayFault) × (e ≡ OfReplay f) × (replay-test (meaning s .places) slots bs ≡ Err f)
+  Played s pile bs slots (Report text) = (replay-test (meaning s .places) slots bs ≡ Ok tt) × Reports s pile bs (string-bytes text)
+
+-- the bytes of an input that are handed on as a record: one more than a record can have
+abbrev pub handed-on : List ℕ → List ℕ
+handed-on bs = take 40017 bs
+
+abbrev pub slots : ℕ
+slots = 20000
+
+-- what becomes of a record, by the number of its pile; no other number is a pile's
+abbrev pub OnPile : ℕ → List ℕ → Outcome → Type 0
+OnPile pile bs o = When (eqb pile 1) (Played peterson-meaning PetersonTakes (λ s. peterson-made) peterson-made 1 bs slots o) (o ≡ Refused NoPile)
+
+-- what the program makes of an input: the pile number is tested first
+abbrev pub Runs : List ℕ → Outcome → Type 0
+Runs [] o = o ≡ Refused NoPile
+Runs (pile ∷ bs) o = OnPile pile (handed-on bs) o

@@ -1,0 +1,61 @@
+ghost use mathlib.Core.Path.{_≡_};
+ghost use lib.ListN.{length};
+ghost use Rattle.std.specs.Vec.{made};
+ghost use Rattle.program.specs.Runs.{Played, Runs};
+use super::faults::ProgramFault;
+use super::faults::ProgramFaultFromReplay;
+use super::text::report_lines;
+use leaf::Peterson;
+use leaf::PetersonLock;
+use lock::Lock;
+use replay::Entry;
+use replay::replay;
+use std::alloc::AllocError;
+use std::alloc::Global;
+
+// One byte more than the longest record has, so that a longer one is seen to be too long.
+const RECORD_LIMIT: usize = 40_017;
+
+// A slot for each call of the longest record.
+const SLOTS: usize = 20_000;
+
+/// What the program makes of an input: the lines of a replay, or the fault.
+#[derive(Drop)]
+pub enum Outcome {
+    Report(String),
+    Refused(ProgramFault),
+}
+
+// Replays a record on the lock of a pile, with this log.
+fn play<L: Lock>(heap: Global, pile: u8, lock: &mut L, bytes: &[u8], log: &mut [Entry]) -> Result<Outcome, AllocError>
+    ensures { λ r. ⌜ made r (λ o. Played (L·Lock .meaning) (L·Lock .takes) (L·Lock .made) (now (lock .entry)) pile (now (bytes .entry)) (length (now (log .entry))) o) ⌝ }
+{
+    match replay(lock, bytes, log) {
+        Ok(summary) => {
+            let entered = summary.counts.enters;
+            let text = report_lines(heap, pile, lock, &log[0..entered], summary)?;
+            Ok(Outcome::Report(text))
+        }
+        Err(fault) => Ok(Outcome::Refused(ProgramFault::from(fault))),
+    }
+}
+
+/// Runs an input: a byte with the number of a pile, and then a record, of which at most 40,017
+/// bytes are handed on.
+///
+/// An input without the number of a pile is refused first; a record as a replay refuses it. Fails
+/// only for want of memory.
+pub fn run(heap: Global, input: &[u8]) -> Result<Outcome, AllocError>
+    ensures { λ r. ⌜ made r (λ o. Runs (now (input .entry)) o) ⌝ }
+{
+    let [pile, rest @ ..] = input else {
+        return Ok(Outcome::Refused(ProgramFault::NoPile));
+    };
+    let length = rest.len().min(RECORD_LIMIT);
+    let bytes = &rest[0..length];
+    let mut log = vec![in heap; Entry { call: 0, place: 0 }; SLOTS]?;
+    match *pile {
+        1 => play(heap, 1, &mut Peterson::new(), bytes, log.as_mut_slice()),
+        _ => Ok(Outcome::Refused(ProgramFault::NoPile)),
+    }
+}
