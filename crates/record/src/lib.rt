@@ -2,6 +2,7 @@ mod call;
 mod checks;
 mod faults;
 mod reader;
+mod writer;
 
 pub use call::BusCall;
 pub use call::BusKind;
@@ -9,3 +10,4 @@ pub use call::RawCall;
 pub use faults::RecordFault;
 pub use faults::RecordFaultFault;
 pub use reader::Reader;
+pub use writer::write_record;
