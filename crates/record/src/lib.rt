@@ -1,5 +1,6 @@
 mod call;
 mod checks;
+pub mod examples;
 mod faults;
 mod reader;
 mod writer;
