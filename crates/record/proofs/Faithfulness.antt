@@ -37,16 +37,18 @@ encode-passes n cs some few few-calls =
     let places : places-in (encode n cs) ≡ n = number-of-bytes n (number-bytes (length cs) ++ (number-bytes 16 ++ whole)) (omega arith) in
     let count : call-count-in (encode n cs) ≡ length cs = number-of-bytes (length cs) (number-bytes 16 ++ whole) (omega arith) in
     let own : length-in (encode n cs) ≡ 16 + 2 * length cs = number-of-bytes (16 + 2 * length cs) calls (omega arith) in
-    let long = length-call-bytes cs in
-    (record {
-      whole-header = omega arith;
-      some-places = rw places some;
-      few-places = rw places few;
-      few-calls = rw count few-calls;
-      usual-offset = refl;
-      own-length = own ∙ rw count refl;
-      given-length = own ∙ omega arith;
-    }, places)
+    let long = length-call-bytes cs in (
+      record {
+        whole-header = omega arith;
+        some-places = rw places some;
+        few-places = rw places few;
+        few-calls = rw count few-calls;
+        usual-offset = refl;
+        own-length = own ∙ rw count refl;
+        given-length = own ∙ omega arith;
+      },
+      places,
+    )
 
 pub faithful : (n : ℕ) (cs : List RawCall) (room : ℕ) → writing-test n cs room ≡ Ok tt → Faithful n cs
 faithful n cs room h =

@@ -94,7 +94,7 @@ calls-pass n at m (k ∷ (p ∷ rest)) e h =
     }
 
 front-then-rest : (bs : List ℕ) → take 4 (drop 0 bs) ++ (take 4 (drop 4 bs) ++ (take 4 (drop 8 bs) ++ (take 4 (drop 12 bs) ++ drop 16 bs))) ≡ bs
-front-then-rest bs = 
+front-then-rest bs =
     let fourth : take 4 (drop 12 bs) ++ drop 16 bs ≡ drop 12 bs = rw (← drop-drop 4 12 bs) (take-append-drop 4 (drop 12 bs)) in
     let third : take 4 (drop 8 bs) ++ drop 12 bs ≡ drop 8 bs = rw (← drop-drop 4 8 bs) (take-append-drop 4 (drop 8 bs)) in
     let second : take 4 (drop 4 bs) ++ drop 8 bs ≡ drop 4 bs = rw (← drop-drop 4 4 bs) (take-append-drop 4 (drop 4 bs)) in
@@ -110,10 +110,10 @@ written-back bs small header calls =
     let whole = ap number-bytes (sym (header .own-length)) ∙ bytes-of-number bs 12 (omega arith) small in
     rw (count, calls .written-again)
     (ap (λ l. l ++ (number-bytes (call-count-in bs) ++ (number-bytes 16 ++ (number-bytes (16 + 2 * call-count-in bs) ++ drop 16 bs)))) places
-     ∙ (ap (λ l. take 4 (drop 0 bs) ++ (l ++ (number-bytes 16 ++ (number-bytes (16 + 2 * call-count-in bs) ++ drop 16 bs)))) call-count
-     ∙ (ap (λ l. take 4 (drop 0 bs) ++ (take 4 (drop 4 bs) ++ (l ++ (number-bytes (16 + 2 * call-count-in bs) ++ drop 16 bs)))) offset
-     ∙ (ap (λ l. take 4 (drop 0 bs) ++ (take 4 (drop 4 bs) ++ (take 4 (drop 8 bs) ++ (l ++ drop 16 bs)))) whole
-     ∙ front-then-rest bs))))
+    ∙ (ap (λ l. take 4 (drop 0 bs) ++ (l ++ (number-bytes 16 ++ (number-bytes (16 + 2 * call-count-in bs) ++ drop 16 bs)))) call-count
+    ∙ (ap (λ l. take 4 (drop 0 bs) ++ (take 4 (drop 4 bs) ++ (l ++ (number-bytes (16 + 2 * call-count-in bs) ++ drop 16 bs)))) offset
+    ∙ (ap (λ l. take 4 (drop 0 bs) ++ (take 4 (drop 4 bs) ++ (take 4 (drop 8 bs) ++ (l ++ drop 16 bs)))) whole
+    ∙ front-then-rest bs))))
 
 pub sound : (bs : List ℕ) → ((i : ℕ) → getD bs i 0 < 256) → reading-test bs ≡ Ok tt → Sound bs
 sound bs small h =

@@ -15,7 +15,6 @@ abbrev pub refuse-if : Bool → RecordFault → Result Unit RecordFault
 refuse-if b e = cond b (Err e) (Ok tt)
 
 infixr 4 _then_
-
 -- what comes after a test that passed; a test that failed is the outcome
 abbrev pub _then_ : {X : Type 0} → Result Unit RecordFault → Result X RecordFault → Result X RecordFault
 Ok u then r = r

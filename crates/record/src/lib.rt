@@ -3,6 +3,8 @@ mod checks;
 pub mod examples;
 mod faults;
 mod reader;
+#[cfg(test)]
+mod tests;
 mod writer;
 
 pub use call::BusCall;

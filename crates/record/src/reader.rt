@@ -33,7 +33,12 @@ fn number_at(bytes: &[u8], start: usize) -> u32
     requires { ⌜ start + 4 ≤ length (now bytes) ⌝ }
     ensures { λ r. ⌜ r ≡ number-at (now (bytes .entry)) start ⌝ }
 {
-    u32::from_le_bytes([bytes[start], bytes[start + 1], bytes[start + 2], bytes[start + 3]])
+    u32::from_le_bytes([
+        bytes[start],
+        bytes[start + 1],
+        bytes[start + 2],
+        bytes[start + 3],
+    ])
 }
 
 // Refuses by the tests that the header alone decides.
@@ -75,7 +80,11 @@ impl<'a> Reader<'a> {
     {
         let header = read_header(bytes)?;
         check_calls(header.places, HEADER_LENGTH, &bytes[HEADER_LENGTH..])?;
-        Ok(Reader { bytes, header, cursor: HEADER_LENGTH })
+        Ok(Reader {
+            bytes,
+            header,
+            cursor: HEADER_LENGTH,
+        })
     }
 
     /// How many places the record has, 1 to 64.
@@ -106,7 +115,10 @@ impl<'a> Reader<'a> {
         let [kind, place, rest @ ..] = self.bytes.get(self.cursor..)? else {
             return None;
         };
-        let call = BusCall { kind: kind_of(*kind), place: *place as usize };
+        let call = BusCall {
+            kind: kind_of(*kind),
+            place: *place as usize,
+        };
         self.cursor = self.bytes.len() - rest.len();
         Some(call)
     }

@@ -17,11 +17,11 @@ returns c =
     let each = sym (c .check-raw-calls .ensures) ∙ c .in-Continue-check-raw-calls .was tt in
     let passed : writing-test (c .args .places) calls (length buffer) ≡ Ok tt = rw (counts, each, le-ltb _ _ (c .if-buffer-length .left)) refl in
     let put = record-put (c .args .places) calls buffer _ _ _ _ _
-      (c .put .ensures ∙ ap (put-at buffer 0) (c .to-le-bytes .ensures))
-      (c .put-2 .ensures ∙ ap (put-at (c .put .last .buffer) 4) (c .to-le-bytes-2 .ensures))
-      (c .put-3 .ensures ∙ ap (put-at (c .put-2 .last .buffer) 8) (c .to-le-bytes-3 .ensures))
-      (c .put-4 .ensures ∙ ap (put-at (c .put-3 .last .buffer) 12) (c .to-le-bytes-4 .ensures))
-      (c .put-calls .ensures) in
+    (c .put .ensures ∙ ap (put-at buffer 0) (c .to-le-bytes .ensures))
+    (c .put-2 .ensures ∙ ap (put-at (c .put .last .buffer) 4) (c .to-le-bytes-2 .ensures))
+    (c .put-3 .ensures ∙ ap (put-at (c .put-2 .last .buffer) 8) (c .to-le-bytes-3 .ensures))
+    (c .put-4 .ensures ∙ ap (put-at (c .put-3 .last .buffer) 12) (c .to-le-bytes-4 .ensures))
+    (c .put-calls .ensures) in
     record {
       outcome = rw passed refl;
       buffer = rw passed put;
