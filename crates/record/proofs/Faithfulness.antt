@@ -1,18 +1,15 @@
 -- What passes the tests of the writer is read again. Assumes nothing.
-use mathlib.Core.Path.{_≡_, refl, sym, ap, _∙_}
+use mathlib.Core.Path.{_≡_, refl, _∙_}
 use mathlib.Core.List.{List, [], _∷_, _++_, map}
-use lib.Dec.{ltb, eqb}
-use lib.ListN.{length, drop}
-use Prim.Native.Nat.{ℕ, _+_, _*_, _≤_, _<_}
+use lib.ListN.{length}
+use Prim.Native.Nat.{ℕ, _+_, _*_, _≤_}
 use native.Mathlib.Omega.{arith}
-use Rattle.std.specs.declared.result.Result.{Result}
 use Rattle.std.specs.declared.result.Result.the-variants.{Ok}
 use Rattle.std.proofs.shelf.Tests.{or-parts, ltb-false, le-ltb, eq-eqb}
 use Rattle.record.specs.declared.call.RawCall.{RawCall}
-use Rattle.record.specs.declared.faults.RecordFault.{RecordFault}
-use Rattle.record.specs.Checks.{_then_, counts-test, calls-test, header-test, reading-test, writing-test}
-use Rattle.record.specs.Layout.{number-bytes, places-in, call-count-in, offset-in, length-in, call-bytes, bus-call, raw-call, encode}
-use Rattle.record.specs.RoundTrip.{Faithful, decode}
+use Rattle.record.specs.Checks.{calls-test, header-test, writing-test}
+use Rattle.record.specs.Layout.{number-bytes, places-in, call-count-in, length-in, call-bytes, bus-call, raw-call, encode}
+use Rattle.record.specs.RoundTrip.{Faithful}
 use Rattle.record.proofs.CallBytes.{length-call-bytes, calls-of-call-bytes}
 use Rattle.record.proofs.Numbers.{number-of-bytes}
 use Rattle.record.proofs.Passing.{Passes, call-passes, kind-byte-of}

@@ -44,8 +44,7 @@ fn put_calls(buffer: &mut [u8], calls: &[RawCall])
     }
 }
 
-/// Writes a record at the start of the buffer and returns its length; the bytes behind it stay.
-/// Refuses with the first test that fails, and then leaves every byte.
+/// Writes a record at the buffer's start and returns its length; bytes behind it stay, and all stay where a test refuses.
 pub fn write_record(places: u32, calls: &[RawCall], buffer: &mut [u8]) -> Result<usize, RecordFault>
     ensures outcome { λ r. ⌜ r ≡ writing places (now (calls .entry)) (now (buffer .entry)) ⌝ }
     ensures buffer { λ _. ⌜ now (buffer .exit) ≡ buffer-after places (now (calls .entry)) (now (buffer .entry)) ⌝ }

@@ -1,11 +1,8 @@
 -- The first call that is left decides, or leaves the outcome to those behind it.
-use mathlib.Core.Path.{_≡_, refl, sym, ap, _∙_}
-use lib.ListN.{drop}
+use mathlib.Core.Path.{refl, sym, _∙_}
 use native.Mathlib.Omega.{arith}
 use Rattle.std.proofs.shelf.Lists.{drop-more, drop-all}
 use Rattle.std.proofs.shelf.Results.{err-from-errBy}
-use Rattle.record.specs.Checks.{calls-test}
-use Rattle.record.specs.Layout.{call-bytes}
 use Rattle.record.proofs.writer.check_raw_calls.Needs as need
 
 pub returns-in-Break-check-call : need.returns-in-Break-check-call

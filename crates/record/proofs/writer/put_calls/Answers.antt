@@ -1,7 +1,6 @@
 -- Each call goes behind those before it.
-use mathlib.Core.Path.{_≡_, refl, sym, ap, _∙_}
-use Prim.Native.Nat.{_≤_}
-use lib.ListN.{length, getD}
+use mathlib.Core.Path.{refl, _∙_}
+use lib.ListN.{getD}
 use native.Mathlib.Omega.{arith}
 use Rattle.std.proofs.shelf.Lists.{take-all, getD-default}
 use Rattle.record.proofs.Putting.{put-call-more}
