@@ -1,5 +1,7 @@
 mod CallBytes
+mod Faithfulness
 mod Numbers
 mod Passing
+mod Putting
 mod Sequence
 mod Walk

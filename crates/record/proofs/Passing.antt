@@ -1,8 +1,6 @@
 -- A record that passes the tests of the reader is sound. Assumes nothing.
 use mathlib.Core.Path.{_≡_, refl, sym, ap, _∙_}
-use mathlib.Core.Bool.{Bool, true, false, cond}
 use mathlib.Core.List.{List, [], _∷_, _++_, map}
-use lib.Dec.{ltb, leb, eqb}
 use lib.ListN.{length, getD, take, drop, length-drop}
 use Prim.Native.Nat.{ℕ, _+_, _-_, _*_, _≤_, _<_}
 use native.Mathlib.Omega.{arith}
@@ -14,7 +12,7 @@ use Rattle.std.proofs.shelf.Tests.{or-parts, ltb-false, leb-false, not-false, e
 use Rattle.std.proofs.shelf.Ways.{tells}
 use Rattle.record.specs.declared.faults.RecordFault.{RecordFault}
 use Rattle.record.specs.declared.reader.Header.{Header}
-use Rattle.record.specs.Checks.{_then_, header-test, counts-test, call-test, calls-test, reading-test}
+use Rattle.record.specs.Checks.{header-test, call-test, calls-test, reading-test}
 use Rattle.record.specs.Layout.{number-bytes, places-in, call-count-in, offset-in, length-in, kind-of, kind-byte, calls-of, calls-in, call-bytes, raw-call, encode}
 use Rattle.record.specs.Readers.{header-read}
 use Rattle.record.specs.RoundTrip.{Sound}
@@ -93,27 +91,24 @@ calls-pass n at m (k ∷ (p ∷ rest)) e h =
       written-again = rw (kind-byte-of k (here .some-kind) (here .known-kind), more .written-again) refl;
     }
 
-front-then-rest : (bs : List ℕ) → take 4 (drop 0 bs) ++ (take 4 (drop 4 bs) ++ (take 4 (drop 8 bs) ++ (take 4 (drop 12 bs) ++ drop 16 bs))) ≡ bs
-front-then-rest bs =
-    let fourth : take 4 (drop 12 bs) ++ drop 16 bs ≡ drop 12 bs = rw (← drop-drop 4 12 bs) (take-append-drop 4 (drop 12 bs)) in
-    let third : take 4 (drop 8 bs) ++ drop 12 bs ≡ drop 8 bs = rw (← drop-drop 4 8 bs) (take-append-drop 4 (drop 8 bs)) in
-    let second : take 4 (drop 4 bs) ++ drop 8 bs ≡ drop 4 bs = rw (← drop-drop 4 4 bs) (take-append-drop 4 (drop 4 bs)) in
-    rw (fourth, third, second) (take-append-drop 4 bs)
+-- a list is its first four fours and the rest
+fours-then-rest : (bs a b c d : List ℕ) → a ≡ take 4 (drop 0 bs) → b ≡ take 4 (drop 4 bs) → c ≡ take 4 (drop 8 bs) → d ≡ take 4 (drop 12 bs) → a ++ (b ++ (c ++ (d ++ drop 16 bs))) ≡ bs
+fours-then-rest bs a b c d first second third fourth =
+    let from-fourth : d ++ drop 16 bs ≡ drop 12 bs = rw (fourth, ← drop-drop 4 12 bs) (take-append-drop 4 (drop 12 bs)) in
+    let from-third : c ++ drop 12 bs ≡ drop 8 bs = rw (third, ← drop-drop 4 8 bs) (take-append-drop 4 (drop 8 bs)) in
+    let from-second : b ++ drop 8 bs ≡ drop 4 bs = rw (second, ← drop-drop 4 4 bs) (take-append-drop 4 (drop 4 bs)) in
+    rw (from-fourth, from-third, from-second, first) (take-append-drop 4 bs)
 
 -- the numbers of the header stand in its bytes, and the calls behind them
-written-back : (bs : List ℕ) → ((i : ℕ) → getD bs i 0 < 256) → Passes bs → CallsPass (places-in bs) (call-count-in bs) (drop 16 bs) → encode (places-in bs) (map raw-call (calls-in bs)) ≡ bs
-written-back bs small header calls =
+written-again : (bs : List ℕ) → ((i : ℕ) → getD bs i 0 < 256) → Passes bs → CallsPass (places-in bs) (call-count-in bs) (drop 16 bs) → encode (places-in bs) (map raw-call (calls-in bs)) ≡ bs
+written-again bs small header calls =
     let count : length (map raw-call (calls-in bs)) ≡ call-count-in bs = length-map (calls-in bs) raw-call ∙ calls .counted in
-    let places = bytes-of-number bs 0 (omega arith) small in
-    let call-count = bytes-of-number bs 4 (omega arith) small in
-    let offset = ap number-bytes (sym (header .usual-offset)) ∙ bytes-of-number bs 8 (omega arith) small in
-    let whole = ap number-bytes (sym (header .own-length)) ∙ bytes-of-number bs 12 (omega arith) small in
     rw (count, calls .written-again)
-    (ap (λ l. l ++ (number-bytes (call-count-in bs) ++ (number-bytes 16 ++ (number-bytes (16 + 2 * call-count-in bs) ++ drop 16 bs)))) places
-    ∙ (ap (λ l. take 4 (drop 0 bs) ++ (l ++ (number-bytes 16 ++ (number-bytes (16 + 2 * call-count-in bs) ++ drop 16 bs)))) call-count
-    ∙ (ap (λ l. take 4 (drop 0 bs) ++ (take 4 (drop 4 bs) ++ (l ++ (number-bytes (16 + 2 * call-count-in bs) ++ drop 16 bs)))) offset
-    ∙ (ap (λ l. take 4 (drop 0 bs) ++ (take 4 (drop 4 bs) ++ (take 4 (drop 8 bs) ++ (l ++ drop 16 bs)))) whole
-    ∙ front-then-rest bs))))
+    (fours-then-rest bs _ _ _ _
+    (bytes-of-number bs 0 (omega arith) small)
+    (bytes-of-number bs 4 (omega arith) small)
+    (ap number-bytes (sym (header .usual-offset)) ∙ bytes-of-number bs 8 (omega arith) small)
+    (ap number-bytes (sym (header .own-length)) ∙ bytes-of-number bs 12 (omega arith) small))
 
 pub sound : (bs : List ℕ) → ((i : ℕ) → getD bs i 0 < 256) → reading-test bs ≡ Ok tt → Sound bs
 sound bs small h =
@@ -127,5 +122,5 @@ sound bs small h =
       whole = omega (arith, header .own-length, header .given-length);
       counted = calls .counted;
       placed = calls .placed;
-      written-again = written-back bs small header calls;
+      written-again = written-again bs small header calls;
     }

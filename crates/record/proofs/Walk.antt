@@ -1,20 +1,16 @@
 -- One call of the reader, from where its cursor stands. Assumes nothing.
 use mathlib.Core.Path.{_≡_, refl, sym, ap, _∙_}
-use mathlib.Core.List.{List, [], _∷_, _++_}
-use mathlib.Core.Bool.{cond, true, false}
-use lib.Dec.{ltb}
+use mathlib.Core.List.{List, [], _∷_}
 use lib.ListN.{length, getD, drop, length-drop}
 use Prim.Native.Nat.{ℕ, _+_, _*_, _≤_, _<_}
 use native.Mathlib.Omega.{arith}
 use Rattle.std.specs.Runs.{nth}
-use Rattle.std.specs.Vec.{listOf}
-use Rattle.std.specs.declared.option.Option.{Option}
 use Rattle.std.specs.declared.option.Option.the-variants.{Some, None}
-use Rattle.std.proofs.shelf.Lists.{drop-drop, drop-all}
+use Rattle.std.proofs.shelf.Lists.{drop-drop}
 use Rattle.std.proofs.shelf.Tests.{lt-ltb, le-ltb}
 use Rattle.record.specs.declared.call.BusKind.{BusKind}
 use Rattle.record.specs.Layout.{calls-of, calls-in, kind-of}
-use Rattle.record.specs.Readers.{Reading, NextCall, calls-left, moved, at-byte}
+use Rattle.record.specs.Readers.{Reading, NextCall, calls-left, at-byte}
 use Rattle.record.proofs.CallBytes.{calls-of-none, calls-of-more, nth-calls-of}
 
 -- the call at the cursor, by its number

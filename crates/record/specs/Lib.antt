@@ -3,3 +3,4 @@ pub mod Faults
 pub mod Layout
 pub mod Readers
 pub mod RoundTrip
+pub mod Writing

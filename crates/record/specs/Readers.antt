@@ -11,7 +11,7 @@ use Rattle.std.specs.Runs.{nth}
 use Rattle.std.specs.Vec.{listOf}
 use Rattle.std.specs.declared.option.Option.{Option}
 use Rattle.std.specs.declared.result.Result.{Result}
-use Rattle.std.specs.declared.result.Result.the-variants.{Ok, Err}
+use Rattle.std.specs.declared.result.Result.the-variants.{Ok}
 use Rattle.record.specs.declared.call.BusCall.{BusCall}
 use Rattle.record.specs.declared.faults.RecordFault.{RecordFault}
 use Rattle.record.specs.declared.reader.Header.{Header}
@@ -41,11 +41,13 @@ opened r = mapped reading (λ e. e) r
 abbrev pub header-read : List ℕ → Result Header RecordFault
 header-read bs = header-test bs then Ok (record { places = places-in bs; calls = call-count-in bs })
 
+-- a reader before the first call of a record
+abbrev pub start-of : List ℕ → Reading
+start-of bs = record { bytes = bs; places = places-in bs; call-count = call-count-in bs; cursor = 16 }
+
 -- what opening a record gives
 abbrev pub opening : List ℕ → Result Reading RecordFault
-opening bs =
-    reading-test bs
-    then Ok (record { bytes = bs; places = places-in bs; call-count = call-count-in bs; cursor = 16 })
+opening bs = reading-test bs then Ok (start-of bs)
 
 -- how many calls have come
 abbrev pub position-of : Reading → ℕ

@@ -8,8 +8,8 @@ const PLACE_LIMIT: u32 = 64;
 
 const CALL_LIMIT: usize = 20_000;
 
-/// How many bytes come before the calls.
-pub const HEADER_LENGTH: usize = 16;
+// How many bytes come before the calls.
+pub(crate) const HEADER_LENGTH: usize = 16;
 
 // Both the reader and the writer count the places and the calls first.
 pub(crate) fn check_counts(places: u32, calls: usize) -> Result<(), RecordFault>

@@ -1,7 +1,11 @@
 mod call;
 mod checks;
+pub mod examples;
 mod faults;
 mod reader;
+#[cfg(test)]
+mod tests;
+mod writer;
 
 pub use call::BusCall;
 pub use call::BusKind;
@@ -9,3 +13,4 @@ pub use call::RawCall;
 pub use faults::RecordFault;
 pub use faults::RecordFaultFault;
 pub use reader::Reader;
+pub use writer::write_record;

@@ -4,7 +4,7 @@ ghost use lib.ListN.{length};
 ghost use Rattle.std.specs.Results.{Cases};
 ghost use Rattle.record.specs.Layout.{kind-of, number-at};
 ghost use Rattle.record.specs.RoundTrip.{Sound};
-ghost use Rattle.record.specs.Readers.{reading, header-read, opened, opening, rewound, position-of, NextCall};
+ghost use Rattle.record.specs.Readers.{reading, header-read, opened, opening, start-of, rewound, position-of, NextCall};
 use super::call::BusCall;
 use super::call::BusKind;
 use super::checks::HEADER_LENGTH;
@@ -76,6 +76,7 @@ impl<'a> Reader<'a> {
     /// Opens a record before its first call; refuses with the first test that fails.
     pub fn open(bytes: &'a [u8]) -> Result<Reader<'a>, RecordFault>
         ensures outcome { λ r. ⌜ opened r ≡ opening (now (bytes .entry)) ⌝ }
+        ensures start { λ r. ⌜ Cases r (λ reader. reading reader ≡ start-of (now (bytes .entry))) (λ _. Unit {0}) ⌝ }
         ensures sound { λ r. ⌜ Cases r (λ _. Sound (now (bytes .entry))) (λ _. Unit {0}) ⌝ }
     {
         let header = read_header(bytes)?;
@@ -87,14 +88,14 @@ impl<'a> Reader<'a> {
         })
     }
 
-    /// How many places the record has, 1 to 64.
+    /// How many places the record has.
     pub fn places(&self) -> usize
         ensures { λ r. ⌜ r ≡ reading (now (self .entry)) .places ⌝ }
     {
         self.header.places as usize
     }
 
-    /// How many calls the record has, 0 to 20,000.
+    /// How many calls the record has.
     pub fn calls(&self) -> usize
         ensures { λ r. ⌜ r ≡ reading (now (self .entry)) .call-count ⌝ }
     {

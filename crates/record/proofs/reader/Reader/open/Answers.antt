@@ -1,9 +1,9 @@
 -- The first test that fails is the outcome, and a record that passes all of them is sound.
-use mathlib.Core.Path.{_≡_, refl, sym, _∙_}
-use lib.ListN.{length, drop}
+use mathlib.Core.Path.{refl, sym, _∙_}
+use lib.ListN.{drop}
 use native.Mathlib.Omega.{arith}
 use Rattle.std.proofs.shelf.Results.{err-from-errBy}
-use Rattle.record.specs.Checks.{_then_, header-test, calls-test}
+use Rattle.record.specs.Checks.{header-test, calls-test}
 use Rattle.record.specs.Layout.{places-in}
 use Rattle.record.proofs.Sequence.{fails-first}
 use Rattle.record.proofs.Passing.{reading-test-is, sound}
@@ -15,6 +15,7 @@ returns-in-Break-header c =
     let bs = c .args .bytes .now in
     record {
       outcome = rw (p .1, p .2) (sym (fails-first (header-test bs) (calls-test (places-in bs) 16 (drop 16 bs)) _ _ _ (sym (c .read-header .ensures) ∙ c .in-Break-header .was tt)));
+      start = rw (p .1) tt;
       sound = rw (p .1) tt;
     }
 
@@ -24,6 +25,7 @@ returns-in-Break-check-calls c =
     let test = reading-test-is (c .args .bytes .now) (c .in-Continue-header .header) (c .check-calls .result) (sym (c .read-header .ensures) ∙ c .in-Continue-header .was tt) (c .check-calls .ensures) in
     record {
       outcome = rw (p .1, p .2, test .0, c .in-Break-check-calls .was tt) refl;
+      start = rw (p .1) tt;
       sound = rw (p .1) tt;
     }
 
@@ -33,5 +35,6 @@ returns c =
     let passed = test .0 ∙ c .in-Continue-check-calls .was tt in
     record {
       outcome = rw (passed, ← test .1) refl;
+      start = rw (← test .1) refl;
       sound = sound (c .args .bytes .now) (λ i. omega (arith, c .typed .bytes i)) passed;
     }
