@@ -1,0 +1,2 @@
+mod Registers
+mod Steps
