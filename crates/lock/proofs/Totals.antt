@@ -1,7 +1,7 @@
 -- How a sum over places changes with what is summed. Assumes nothing.
 use mathlib.Core.Path.{_≡_, refl, sym, ap}
 use mathlib.Core.Logic.{⊎-elim}
-use Prim.Native.Nat.{ℕ, zero, suc, _+_, _<_}
+use Prim.Native.Nat.{ℕ, zero, suc, _+_, _<_, _≤_}
 use native.Mathlib.Omega.{arith}
 use Rattle.std.proofs.shelf.Tests.{cases-eq}
 use Rattle.lock.specs.Totals.{total}
@@ -25,3 +25,16 @@ total-changed f g (suc n) i l h =
     let rest = total-changed f g n i (omega (arith, ne)) h in
     omega arith)
     (cases-eq i n)
+
+-- the sum is at least what each place adds
+pub total-has : (f : ℕ → ℕ) (n i : ℕ) → i < n → f i ≤ total f n
+total-has f zero i l = absurd (omega (arith, l))
+total-has f (suc n) i l =
+    ⊎-elim
+    (λ (e : i ≡ n). omega (arith, ap f e))
+    (λ (ne : i ≡ n → ⊥). omega (arith, total-has f n i (omega (arith, l, ne))))
+    (cases-eq i n)
+
+pub total-none : (f : ℕ → ℕ) (n : ℕ) → ((p : ℕ) → f p ≡ 0) → total f n ≡ 0
+total-none f zero h = refl
+total-none f (suc n) h = omega (arith, h n, total-none f n h)

@@ -1,8 +1,9 @@
 -- How the three parts of a pile hang together. Assumes nothing.
 use mathlib.Core.Path.{_≡_}
-use Prim.Native.Nat.{ℕ, zero, suc, _+_, _≤_}
+use Prim.Native.Nat.{ℕ, _+_, _≤_}
 use Rattle.lock.specs.declared.Phase.{Phase}
 use Rattle.lock.specs.declared.Phase.the-variants.{Out, Bidding, Holding, Leaving}
+use Rattle.lock.specs.Totals.{total}
 use Rattle.pile.specs.declared.Side.{Side}
 use Rattle.pile.specs.declared.Side.the-variants.{Left, Right}
 use Rattle.pile.specs.declared.Pile.{Pile}
@@ -14,13 +15,9 @@ bids-now Bidding = 1
 bids-now Holding = 0
 bids-now Leaving = 0
 
--- how many of the first n places are bidding
-abbrev pub bidders : (ℕ → Phase) → ℕ → ℕ
-bidders f zero = 0
-bidders f (suc n) = bids-now (f n) + bidders f n
-
-abbrev pub side-bidders : Side → Meanings → ℕ
-side-bidders d m = bidders (side-of d m .phase) (side-of d m .places)
+-- how many places of a side are bidding there
+abbrev pub bidders : Side → Meanings → ℕ
+bidders d m = total (λ i. bids-now (side-of d m .phase i)) (side-of d m .places)
 
 pub record Joined (m : Meanings) : Type 0 where
   -- a side with a holder has its top place in use
@@ -30,7 +27,7 @@ pub record Joined (m : Meanings) : Type 0 where
   -- no other place of the top is in use
   pub rest-out : (k : ℕ) → 2 ≤ k → m .top .phase k ≡ Out
   -- the top has taken a bid for each bid at a side, but for those of the boxes that still bid there
-  pub top-behind : m .top .bids + (side-bidders Left m + side-bidders Right m) ≤ m .left .bids + m .right .bids
+  pub top-behind : m .top .bids + (bidders Left m + bidders Right m) ≤ m .left .bids + m .right .bids
   pub few-bids : m .left .bids + m .right .bids ≤ 1000000
   -- a place of a side that is no place of the pile is out
   pub cut-out : (d : Side) (i : ℕ) → room d m ≤ i → side-of d m .phase i ≡ Out

@@ -1,3 +1,4 @@
+-- The count is that of the three lists put together, cut at the limit.
 use native.Mathlib.Omega.{arith}
 use lib.ListN.{length-take, length-append}
 use Rattle.pile.proofs.PileLock.register_count.Needs as need
