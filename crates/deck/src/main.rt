@@ -17,22 +17,70 @@ use words::word_of_kind;
 // Both boxes bid, box 0 enters first, and box 1 waits until it is out again. Box 1 once tries to
 // leave before it holds.
 const CONTEST: [Call; 16] = [
-    Call { kind: Kind::Bid, place: 0 },
-    Call { kind: Kind::Bid, place: 1 },
-    Call { kind: Kind::Step, place: 0 },
-    Call { kind: Kind::Step, place: 1 },
-    Call { kind: Kind::Step, place: 0 },
-    Call { kind: Kind::Step, place: 1 },
-    Call { kind: Kind::Step, place: 1 },
-    Call { kind: Kind::Step, place: 0 },
-    Call { kind: Kind::Step, place: 1 },
-    Call { kind: Kind::Leave, place: 1 },
-    Call { kind: Kind::Leave, place: 0 },
-    Call { kind: Kind::Step, place: 0 },
-    Call { kind: Kind::Step, place: 1 },
-    Call { kind: Kind::Step, place: 1 },
-    Call { kind: Kind::Leave, place: 1 },
-    Call { kind: Kind::Step, place: 1 },
+    Call {
+        kind: Kind::Bid,
+        place: 0,
+    },
+    Call {
+        kind: Kind::Bid,
+        place: 1,
+    },
+    Call {
+        kind: Kind::Step,
+        place: 0,
+    },
+    Call {
+        kind: Kind::Step,
+        place: 1,
+    },
+    Call {
+        kind: Kind::Step,
+        place: 0,
+    },
+    Call {
+        kind: Kind::Step,
+        place: 1,
+    },
+    Call {
+        kind: Kind::Step,
+        place: 1,
+    },
+    Call {
+        kind: Kind::Step,
+        place: 0,
+    },
+    Call {
+        kind: Kind::Step,
+        place: 1,
+    },
+    Call {
+        kind: Kind::Leave,
+        place: 1,
+    },
+    Call {
+        kind: Kind::Leave,
+        place: 0,
+    },
+    Call {
+        kind: Kind::Step,
+        place: 0,
+    },
+    Call {
+        kind: Kind::Step,
+        place: 1,
+    },
+    Call {
+        kind: Kind::Step,
+        place: 1,
+    },
+    Call {
+        kind: Kind::Leave,
+        place: 1,
+    },
+    Call {
+        kind: Kind::Step,
+        place: 1,
+    },
 ];
 
 fn print_call(rt: &LibcRuntime, call: Call, reply: Reply) -> io::Result<()> {

@@ -286,14 +286,14 @@ module _ {X : Type 0} (A : Algorithm X) (Sound : Board X → Type 0) (correct : 
           out-beyond = λ p g. let t = le-ltb p (A .places) g in rw t refl;
           named-holds = λ p e. first-holds (m .phase) (A .places) p e;
           holding-named = λ p e.
-          holds-first (m .phase) (A .places) p
-          (λ q h. correct .one-holder b q p (kept .1) (held q h .0) (held p e .0) (held q h .1) (held p e .1))
-          (held p e .0) e;
+              holds-first (m .phase) (A .places) p
+              (λ q h. correct .one-holder b q p (kept .1) (held q h .0) (held p e .0) (held q h .1) (held p e .1))
+              (held p e .0) e;
           short-delay = λ p d e. mark-short A (b .registers) p (A .wait-limit) (box-at A b p) d e;
           some-open = λ free p active.
-          let at = stirring p active in
-          let found = correct .some-open b (kept .1) (λ q l h. free q (phase-placed A b b q (box-at A b q) None l b ∙ h)) p (at .0) (at .1) in
-          (found .0, found .1, subst Active (sym (phase-placed A b b (found .0) (box-at A b (found .0)) None (found .2) b)) (found .3), found .4);
+              let at = stirring p active in
+              let found = correct .some-open b (kept .1) (λ q l h. free q (phase-placed A b b q (box-at A b q) None l b ∙ h)) p (at .0) (at .1) in
+              (found .0, found .1, subst Active (sym (phase-placed A b b (found .0) (box-at A b (found .0)) None (found .2) b)) (found .3), found .4);
         }
 
   blank-kept : (b : Board X) → Blank A b → Kept b
@@ -345,6 +345,6 @@ module _ {X : Type 0} (A : Algorithm X) (Sound : Board X → Type 0) (correct : 
           well-formed = λ s kept. formed (board s) kept;
           changes = λ s t c r kept is. subst (λ (o : Outcome X). Changes (refusal-of (meaning-of A (board s)) c) (meaning-of A (board s)) c (o .reply) (meaning-of A (o .board))) is (outcome-changes (board s) kept c (refusal-of (meaning-of A (board s)) c) refl);
           untouched = λ s t c e is.
-          let same = outcome-untouched (board s) c e (refusal-of (meaning-of A (board s)) c) (ap (λ (o : Outcome X). o .reply) is) in
-          sym (whole t) ∙ ap from (sym (ap (λ (o : Outcome X). o .board) is) ∙ same) ∙ whole s;
+              let same = outcome-untouched (board s) c e (refusal-of (meaning-of A (board s)) c) (ap (λ (o : Outcome X). o .reply) is) in
+              sym (whole t) ∙ ap from (sym (ap (λ (o : Outcome X). o .board) is) ∙ same) ∙ whole s;
         }

@@ -54,7 +54,9 @@ bye-correct =
   where
     bid-cost : (f : Phase) → f ≡ Out → bye-left Bidding < bye-left f
     bid-cost f e = grind arith
+
     leave-cost : (f : Phase) → f ≡ Holding → bye-left Leaving < bye-left f
     leave-cost f e = grind arith
+
     limit : (f : Phase) → bye-left f + 0 ≤ 3
     limit f = grind arith

@@ -195,11 +195,11 @@ peterson-correct =
       fitting = λ b p h placed active. line-fits p (line-of b p) (value (b .registers) (reads p (line-of b p))) active;
       within = λ b p h placed active. line-within p (line-of b p) (value (b .registers) (reads p (line-of b p))) placed;
       after-bid = λ b b′ p h placed e change bids.
-      rival-same b b′ p (at One) None placed change (bid-kept p (1 - p) (line-of b p) (line-of b (1 - p)) (register-of b) (register-of b′) (from-box b p placed h) e (change .registers));
+          rival-same b b′ p (at One) None placed change (bid-kept p (1 - p) (line-of b p) (line-of b (1 - p)) (register-of b) (register-of b′) (from-box b p placed h) e (change .registers));
       after-leave = λ b b′ p h placed e change bids.
-      rival-same b b′ p (at Leaving) None placed change (leave-kept p (1 - p) (line-of b p) (line-of b (1 - p)) (register-of b) (register-of b′) (from-box b p placed h) e (change .registers));
+          rival-same b b′ p (at Leaving) None placed change (leave-kept p (1 - p) (line-of b p) (line-of b (1 - p)) (register-of b) (register-of b′) (from-box b p placed h) e (change .registers));
       after-step = λ b b′ p h placed active change bids.
-      rival-same b b′ p (acting peterson b p .next) (acting peterson b p .writes) placed change (step-kept p (1 - p) (line-of b p) (line-of b (1 - p)) (b .registers) (register-of b′) (omega arith) (from-box b p placed h) active (change .registers));
+          rival-same b b′ p (acting peterson b p .next) (acting peterson b p .writes) placed change (step-kept p (1 - p) (line-of b p) (line-of b (1 - p)) (b .registers) (register-of b′) (omega arith) (from-box b p placed h) active (change .registers));
       one-holder = λ b p q h lp lq hp hq. one-holds b p q h lp lq hp hq;
       within-limit = λ b h. limit (line-of b 0) (line-of b 1) (register-of b) h;
       shut-stays = λ b p h placed is e. stays-shut p (line-of b p) (b .registers) is e;
@@ -208,5 +208,6 @@ peterson-correct =
   where
     bid-cost : (l : Line) → line-phase l ≡ IsOut → left One < left l
     bid-cost l e = grind arith
+
     leave-cost : (l : Line) → line-phase l ≡ IsHolding → left Leaving < left l
     leave-cost l e = grind arith

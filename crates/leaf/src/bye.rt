@@ -18,7 +18,10 @@ impl Bye {
     pub fn new() -> Bye
         ensures { λ r. ⌜ r ≡ bye-made ⌝ }
     {
-        Bye { phase: Phase::Out, bids: 0 }
+        Bye {
+            phase: Phase::Out,
+            bids: 0,
+        }
     }
 }
 

@@ -7,12 +7,12 @@ ghost use Rattle.leaf.specs.PetersonLines.{peterson-meaning};
 use super::peterson::Peterson;
 use super::peterson::PetersonLock;
 use fault::Fault;
-use lock::call_on;
 use lock::Call;
 use lock::Kind;
 use lock::Lock;
 use lock::RefusalFault;
 use lock::Reply;
+use lock::call_on;
 
 /// Box 0 of a new Peterson lock bids and steps four times, with nobody else there.
 pub fn lone_peterson_box_moves_moves_waits_enters() -> ([Reply; 5], Peterson)
@@ -20,8 +20,17 @@ pub fn lone_peterson_box_moves_moves_waits_enters() -> ([Reply; 5], Peterson)
     ensures registers { λ r. ⌜ peterson-meaning (r .1) .registers ≡ 1 ∷ (0 ∷ (1 ∷ [])) ⌝ }
 {
     let mut lock = Peterson::new();
-    let step = Call { kind: Kind::Step, place: 0 };
-    let bid = call_on(&mut lock, Call { kind: Kind::Bid, place: 0 });
+    let step = Call {
+        kind: Kind::Step,
+        place: 0,
+    };
+    let bid = call_on(
+        &mut lock,
+        Call {
+            kind: Kind::Bid,
+            place: 0,
+        },
+    );
     let first = call_on(&mut lock, step);
     let second = call_on(&mut lock, step);
     let third = call_on(&mut lock, step);

@@ -10,6 +10,7 @@ const PLACES: usize = 2;
 
 // The register numbers: W0 and W1 stand at their places, and P behind them.
 const P: usize = 2;
+
 const REGISTERS: usize = 3;
 
 /// Where a box stands in the algorithm.
@@ -56,7 +57,11 @@ impl Peterson {
     pub fn new() -> Peterson
         ensures { λ r. ⌜ r ≡ peterson-made ⌝ }
     {
-        Peterson { boxes: [BoxRecord { line: Line::Out }; PLACES], registers: [0; REGISTERS], bids: 0 }
+        Peterson {
+            boxes: [BoxRecord { line: Line::Out }; PLACES],
+            registers: [0; REGISTERS],
+            bids: 0,
+        }
     }
 }
 

@@ -116,9 +116,9 @@ module _ (m m′ : Meanings) (d : Side) (i : ℕ) (f g : Phase) (event : Event m
       record {
         own = ap (of-box (box-phase m′) Out) (same-found p ∙ there) ∙ own-or-top-same f (side-of d m′ .phase i) f (side-of d m′ .phase i) g (m′ .top .phase (top-place d)) own own (λ _. above);
         others = λ q ne. ap (of-box (box-phase m′) Out) (same-found q) ∙ others-seen m (box-phase m) (box-phase m′) Out p d i few there
-        (λ j apart. let same = event .side .others j apart in own-or-top-same (side-of d m .phase j) (side-of d m′ .phase j) (side-of d m .phase j) (side-of d m′ .phase j) (m .top .phase (top-place d)) (m′ .top .phase (top-place d)) same same (λ h. above ∙ still j apart h))
-        (λ j. own-or-top-same (side-of (other d) m .phase j) (side-of (other d) m′ .phase j) (side-of (other d) m .phase j) (side-of (other d) m′ .phase j) (m .top .phase (top-place (other d))) (m′ .top .phase (top-place (other d))) (rest-phase j) (rest-phase j) (λ _. across-top))
-        q ne;
+            (λ j apart. let same = event .side .others j apart in own-or-top-same (side-of d m .phase j) (side-of d m′ .phase j) (side-of d m .phase j) (side-of d m′ .phase j) (m .top .phase (top-place d)) (m′ .top .phase (top-place d)) same same (λ h. above ∙ still j apart h))
+            (λ j. own-or-top-same (side-of (other d) m .phase j) (side-of (other d) m′ .phase j) (side-of (other d) m .phase j) (side-of (other d) m′ .phase j) (m .top .phase (top-place (other d))) (m′ .top .phase (top-place (other d))) (rest-phase j) (rest-phase j) (λ _. across-top))
+            q ne;
       }
 
   same-room : (e : Side) → room e m′ ≡ room e m
@@ -154,8 +154,8 @@ module _ (m m′ : Meanings) (d : Side) (i : ℕ) (f g : Phase) (event : Event m
         top-behind = omega (arith, joined .top-behind, all, spent, rest-bids, rest-bidders, split (λ e. bidders e m′) d, split (λ e. bidders e m) d, split (λ e. side-of e m′ .bids) d, split (λ e. side-of e m .bids) d);
         few-bids = omega (arith, few-bids, rest-bids, split (λ e. side-of e m′ .bids) d);
         cut-out = each-side (λ e. (j : ℕ) → room e m′ ≤ j → side-of e m′ .phase j ≡ Out) d
-        (λ j l. event .side .others j (λ (e : j ≡ i). omega (arith, e, l, inside, same-room d)) ∙ joined .cut-out d j (omega (arith, l, same-room d)))
-        (λ j l. rest-phase j ∙ joined .cut-out (other d) j (omega (arith, l, same-room (other d))));
+            (λ j l. event .side .others j (λ (e : j ≡ i). omega (arith, e, l, inside, same-room d)) ∙ joined .cut-out d j (omega (arith, l, same-room d)))
+            (λ j l. rest-phase j ∙ joined .cut-out (other d) j (omega (arith, l, same-room (other d))));
       }
     where
       split : (F : Side → ℕ) (e : Side) → F Left + F Right ≡ F e + F (other e)
@@ -180,6 +180,7 @@ module _ (m m′ : Meanings) (d : Side) (i : ℕ) (f g : Phase) (event : Event m
           (λ (e : j ≡ i). ap (side-of d m .phase) e ∙ was (sym (event .side .own) ∙ ap (side-of d m′ .phase) (sym e) ∙ h))
           (λ (apart : j ≡ i → ⊥). sym (event .side .others j apart) ∙ h)
           (cases-eq j i)
+
       after : (j : ℕ) → side-of d m .phase j ≡ Holding → side-of d m′ .phase j ≡ Holding
       after j h =
           ⊎-elim

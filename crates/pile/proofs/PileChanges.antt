@@ -311,11 +311,11 @@ module _ (m : Meanings) (formed : Formed m) (joined : Joined m) (d : Side) (i p 
             let counts = ap bids-now (entered .bidding) in
             let bidding = entered .bidding in
             let now-joined : Joined m′ =
-                joined-after m m′ d i Holding Bidding event few joined inside
-                (λ j h (e : Bidding ≡ Out). let z : _≡_ {A = ℕ} 0 1 = cc in omega arith)
-                (λ n. (i, entered .phases .own))
-                (omega (arith, bid .0 .more-bids, bids, counts))
-                (omega (arith, bids, bids-split m d joined, joined .few-bids))
+            joined-after m m′ d i Holding Bidding event few joined inside
+            (λ j h (e : Bidding ≡ Out). let z : _≡_ {A = ℕ} 0 1 = cc in omega arith)
+            (λ n. (i, entered .phases .own))
+            (omega (arith, bid .0 .more-bids, bids, counts))
+            (omega (arith, bids, bids-split m d joined, joined .few-bids))
             in
             record {
               moved = record {
@@ -342,11 +342,11 @@ module _ (m : Meanings) (formed : Formed m) (joined : Joined m) (d : Side) (i p 
             let before = ap (λ (f : Phase). reserve f (side-of d m .call-limit)) (gone .leaving) in
             let counts = ap bids-now holds in
             let now-joined : Joined m′ =
-                joined-after m m′ d i Leaving Out event few joined inside
-                (λ j h e. nobody-holds leave j h)
-                (λ n. absurd (n refl))
-                (omega (arith, leave .0 .more-bids, bids, counts))
-                (omega (arith, leave .0 .more-bids, bids-split m d joined, joined .few-bids))
+            joined-after m m′ d i Leaving Out event few joined inside
+            (λ j h e. nobody-holds leave j h)
+            (λ n. absurd (n refl))
+            (omega (arith, leave .0 .more-bids, bids, counts))
+            (omega (arith, leave .0 .more-bids, bids-split m d joined, joined .few-bids))
             in
             record {
               moved = record {

@@ -147,8 +147,8 @@ module _ (m : Meanings) (formed : Formed m) (joined : Joined m) where
           found-open .1,
           subst Active (sym (shown (box .0) (box .1) holds ∙ ap (m .top .phase) (box .2))) (found-open .2),
           seen (box-mark m) shut (box .0) (box .1) within
-          ∙ ap (λ (f : Phase). own-or-top f (side-of (box .0) m .mark (box .1)) (m .top .mark (top-place (box .0)))) holds
-          ∙ ap (m .top .mark) (box .2) ∙ found-open .3,
+              ∙ ap (λ (f : Phase). own-or-top f (side-of (box .0) m .mark (box .1)) (m .top .mark (top-place (box .0)))) holds
+              ∙ ap (m .top .mark) (box .2) ∙ found-open .3,
         )
 
     -- a side with a holder has its place at the top active
@@ -176,6 +176,7 @@ module _ (m : Meanings) (formed : Formed m) (joined : Joined m) where
         at-side Bidding not a = a
         at-side Holding not a = absurd (not refl)
         at-side Leaving not a = a
+
         by-holder : (o : Option ℕ) → side-of (b .0) m .holder ≡ o → SomeOpen
         by-holder (Some i) e = open-above (top-place (b .0)) (held-above (b .0) i (formed .sides (b .0) .named-holds i e))
         by-holder None e =
@@ -190,7 +191,7 @@ module _ (m : Meanings) (formed : Formed m) (joined : Joined m) where
         few-bids = omega (arith, joined .few-bids);
         few-registers = omega (arith, length-take 4096 (m .top .registers ++ (m .left .registers ++ m .right .registers)));
         within-limit =
-        omega (arith, formed .top .within-limit, formed .sides Left .within-limit, formed .sides Right .within-limit, reserve-within (m .top .phase 0) (m .left .call-limit), reserve-within (m .top .phase 1) (m .right .call-limit));
+            omega (arith, formed .top .within-limit, formed .sides Left .within-limit, formed .sides Right .within-limit, reserve-within (m .top .phase 0) (m .left .call-limit), reserve-within (m .top .phase 1) (m .right .call-limit));
         out-beyond = λ p l. ap (of-box (box-phase m) Out) (found-none m few p l);
         named-holds = λ p e. holder-names (m .top .holder) refl p e;
         holding-named = λ p e. names-holder p (found m p) refl e;

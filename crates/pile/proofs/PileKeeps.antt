@@ -21,8 +21,8 @@ use Rattle.pile.specs.declared.Side.{Side}
 use Rattle.pile.specs.declared.Side.the-variants.{Left, Right}
 use Rattle.pile.specs.declared.Pile.{Pile}
 use Rattle.pile.specs.Finding.{Meanings, side-of, top-place, found}
-use Rattle.pile.specs.PileMeaning.{pile-bids, pile-meaning}
-use Rattle.pile.specs.PileCalls.{meanings, Refuses, TopTakes, SideTakes, BidAt, AfterSide, AfterTop, SideSteps, TopSteps, StepAt, LeaveAt, CallAt, CallOf, PileTakes}
+use Rattle.pile.specs.PileMeaning.{pile-bids}
+use Rattle.pile.specs.PileCalls.{meanings, pile-means, pile-made, Refuses, TopTakes, SideTakes, BidAt, AfterSide, AfterTop, SideSteps, TopSteps, StepAt, LeaveAt, CallAt, CallOf, PileTakes}
 use Rattle.pile.specs.Joined.{Joined, PileSound}
 use Rattle.pile.proofs.Events.{Formed, pile-sizes}
 use Rattle.pile.proofs.PileFormed.{pile-formed}
@@ -40,10 +40,10 @@ unlike-answered : {e : Refusal} {a : Answer} → Refused e ≡ Answered a → �
 unlike-answered is = let z : _≡_ {A = ℕ} 0 1 = cc in omega arith
 
 module _
-  {T L R : Type 0}
-  {top-means : T → Meaning} {top-takes : T → Call → Reply → T → Type 0} {top-made : T → T} {top-sound : T → Type 0} (top-keeps : Keeps top-means top-takes top-made top-sound)
-  {left-means : L → Meaning} {left-takes : L → Call → Reply → L → Type 0} {left-made : L → L} {left-sound : L → Type 0} (left-keeps : Keeps left-means left-takes left-made left-sound)
-  {right-means : R → Meaning} {right-takes : R → Call → Reply → R → Type 0} {right-made : R → R} {right-sound : R → Type 0} (right-keeps : Keeps right-means right-takes right-made right-sound) where
+    {T L R : Type 0}
+    {top-means : T → Meaning} {top-takes : T → Call → Reply → T → Type 0} {top-made : T → T} {top-sound : T → Type 0} (top-keeps : Keeps top-means top-takes top-made top-sound)
+    {left-means : L → Meaning} {left-takes : L → Call → Reply → L → Type 0} {left-made : L → L} {left-sound : L → Type 0} (left-keeps : Keeps left-means left-takes left-made left-sound)
+    {right-means : R → Meaning} {right-takes : R → Call → Reply → R → Type 0} {right-made : R → R} {right-sound : R → Type 0} (right-keeps : Keeps right-means right-takes right-made right-sound) where
   abbrev means : Pile T L R → Meanings
   means = meanings top-means left-means right-means
 
@@ -183,7 +183,7 @@ module _
   untouched-at s s′ k e (Some b) taken = call-untouched (b .0) (b .1) s s′ e k taken
 
   abbrev made : Pile T L R → Pile T L R
-  made s = record { top = top-made (s .top); left = left-made (s .left); right = right-made (s .right) }
+  made = pile-made top-made left-made right-made
 
   abbrev Sound : Pile T L R → Type 0
   Sound = PileSound top-sound left-sound right-sound means
@@ -206,29 +206,29 @@ module _
   sides-sized s Left = left-keeps .made-sizes (s .left)
   sides-sized s Right = right-keeps .made-sizes (s .right)
 
-  pub pile-keeps : Keeps (λ s. pile-meaning (means s)) (PileTakes top-takes left-takes right-takes means) made Sound
+  pub pile-keeps : Keeps (pile-means top-means left-means right-means) (PileTakes top-takes left-takes right-takes means) made Sound
   pile-keeps =
       record {
         made-sound = λ s.
-        record {
-          top = top-keeps .made-sound (s .top);
-          left = left-keeps .made-sound (s .left);
-          right = right-keeps .made-sound (s .right);
-          joined = made-joined (means (made s)) (top-keeps .made-fresh (s .top)) (sides-fresh s);
-        };
+            record {
+              top = top-keeps .made-sound (s .top);
+              left = left-keeps .made-sound (s .left);
+              right = right-keeps .made-sound (s .right);
+              joined = made-joined (means (made s)) (top-keeps .made-fresh (s .top)) (sides-fresh s);
+            };
         made-fresh = λ s. made-fresh (means (made s)) (top-keeps .made-fresh (s .top)) (sides-fresh s);
         made-sizes = λ s. pile-sizes (means s) (means (made s)) (top-keeps .made-sizes (s .top)) (sides-sized s);
         stays-sound = λ s t c r so taken.
-        let up = lifted s t (c .kind) r (parts-of s so) (found (means s) (c .place)) taken in
-        record {
-          top = up .1 .top;
-          left = up .1 .left;
-          right = up .1 .right;
-          joined = pile-outcome (means s) (means t) (parts-formed s (parts-of s so)) (so .joined) c r (up .0) .1;
-        };
+            let up = lifted s t (c .kind) r (parts-of s so) (found (means s) (c .place)) taken in
+            record {
+              top = up .1 .top;
+              left = up .1 .left;
+              right = up .1 .right;
+              joined = pile-outcome (means s) (means t) (parts-formed s (parts-of s so)) (so .joined) c r (up .0) .1;
+            };
         well-formed = λ s so. pile-formed (means s) (parts-formed s (parts-of s so)) (so .joined);
         changes = λ s t c r so taken.
-        let up = lifted s t (c .kind) r (parts-of s so) (found (means s) (c .place)) taken in
-        pile-outcome (means s) (means t) (parts-formed s (parts-of s so)) (so .joined) c r (up .0) .0;
+            let up = lifted s t (c .kind) r (parts-of s so) (found (means s) (c .place)) taken in
+            pile-outcome (means s) (means t) (parts-formed s (parts-of s so)) (so .joined) c r (up .0) .0;
         untouched = λ s t c e taken. untouched-at s t (c .kind) e (found (means s) (c .place)) taken;
       }

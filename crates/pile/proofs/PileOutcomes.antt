@@ -130,12 +130,12 @@ module _ (m : Meanings) (formed : Formed m) (joined : Joined m) (d : Side) (i p 
         let rest′ = sides (other d) ∙ rest in
         let bids′ : side-of d m′ .bids ≡ side-of d m .bids = ap (λ (x : Meaning). x .bids) (sides d) ∙ bids in
         let climb =
-            climbed m formed joined d i p there m′ rest′
-            (subst (λ (x : Meaning). SameSize (side-of d m) x) (sym (sides d)) size)
-            (subst WellFormed (sym (sides d)) formed′)
-            bids′
-            (subst (λ (x : Meaning). Stepped (side-of d m) i Enters x) (sym (sides d)) entered)
-            q changed
+        climbed m formed joined d i p there m′ rest′
+        (subst (λ (x : Meaning). SameSize (side-of d m) x) (sym (sides d)) size)
+        (subst WellFormed (sym (sides d)) formed′)
+        bids′
+        (subst (λ (x : Meaning). Stepped (side-of d m) i Enters x) (sym (sides d)) entered)
+        q changed
         in
         (((Moves, after .0, climb .moved, climb .bids), climb .size), climb .joined)
 
@@ -177,12 +177,12 @@ module _ (m : Meanings) (formed : Formed m) (joined : Joined m) (d : Side) (i p 
         let changed = subst (λ (x : Meaning). Changes (refusal-of x (leave-by i)) x (leave-by i) q (side-of d m′)) (sides d) (parts .0 .0) in
         let rest : side-of (other d) m′ ≡ side-of (other d) m = parts .2 ∙ sides (other d) in
         let descent =
-            descended m formed joined d i p there m′ rest
-            (subst (λ (x : Meaning). SameSize (m .top) x) (sym (parts .1)) size)
-            (ap (λ (x : Meaning). x .bids) (parts .1) ∙ bids)
-            holds
-            (subst (λ (x : Meaning). Stepped (m .top) (top-place d) Gone x) (sym (parts .1)) gone)
-            q changed
+        descended m formed joined d i p there m′ rest
+        (subst (λ (x : Meaning). SameSize (m .top) x) (sym (parts .1)) size)
+        (ap (λ (x : Meaning). x .bids) (parts .1) ∙ bids)
+        holds
+        (subst (λ (x : Meaning). Stepped (m .top) (top-place d) Gone x) (sym (parts .1)) gone)
+        q changed
         in
         (((Moves, after .0, descent .moved, descent .bids), descent .size), descent .joined)
 

@@ -24,7 +24,7 @@ answer-there : (m : Meaning) (i : ℕ) (o : Option Phase) (f : Phase) → i < m 
 answer-there m i o f l e h = let t = lt-ltb i (m .places) l in let there : o ≡ Some (m .phase i) = rw t at e in cc
 
 module _ {T L R : Type 0} (top-takes : T → Call → Reply → T → Type 0) (left-takes : L → Call → Reply → L → Type 0) (right-takes : R → Call → Reply → R → Type 0) (means : Pile T L R → Meanings) (s u s′ : Pile T L R) (p : ℕ) (b : Option (Side × ℕ)) (d : Side) (i : ℕ) (o : Option Phase) (q r : Reply)
-  (value : b ≡ found (means s) p) (is : b ≡ Some (d, i)) (within : i < side-of d (means s) .places) (answer : o ≡ phase-answer (side-of d (means s)) i) where
+    (value : b ≡ found (means s) p) (is : b ≡ Some (d, i)) (within : i < side-of d (means s) .places) (answer : o ≡ phase-answer (side-of d (means s)) i) where
   step-taken : (f : Phase) → side-of d (means s) .phase i ≡ f → StepAt top-takes left-takes right-takes f d i s r s′ → PileTakes top-takes left-takes right-takes means s (step-by p) r s′
   step-taken f phase h =
       let there : found (means s) p ≡ Some (d, i) = cc in

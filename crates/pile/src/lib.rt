@@ -5,16 +5,19 @@ ghost use Rattle.lock.specs.Calls.{bid-by, step-by, leave-by, taken-or, answere
 ghost use Rattle.lock.specs.Meaning.{phase-answer};
 ghost use Rattle.pile.specs.declared.Side.{Side as SideOf};
 ghost use Rattle.pile.specs.Finding.{side-of, top-place, found};
-ghost use Rattle.pile.specs.PileMeaning.{pile-meaning};
-ghost use Rattle.pile.specs.PileCalls.{meanings, SideTakes, AfterSide, AfterTop, PileTakes};
+ghost use Rattle.pile.specs.PileCalls.{meanings, pile-means, pile-made, SideTakes, AfterSide, AfterTop, PileTakes, form, nested, PromisesOf};
 ghost use Rattle.pile.specs.Joined.{PileSound};
 use lock::Answer;
 use lock::BID_LIMIT;
+use lock::Call;
 use lock::Lock;
 use lock::Phase;
 use lock::Refusal;
+use lock::Reply;
+use lock::call_on;
 
 const PLACE_LIMIT: usize = 64;
+
 const REGISTER_LIMIT: usize = 4096;
 
 /// One of the two lower parts of a pile.
@@ -46,13 +49,12 @@ pub struct Pile<T, L, R> {
 
 impl<T: Lock, L: Lock, R: Lock> Pile<T, L, R> {
     /// A pile of the three locks, each made anew.
-    pub fn new(mut top: T, mut left: L, mut right: R) -> Pile<T, L, R>
-        ensures { λ r. ⌜ r ≡ record { top = T·Lock .made top; left = L·Lock .made left; right = R·Lock .made right } ⌝ }
+    pub fn new(top: T, left: L, right: R) -> Pile<T, L, R>
+        ensures { λ r. ⌜ r ≡ pile-made (T·Lock .made) (L·Lock .made) (R·Lock .made) (record { top = top; left = left; right = right }) ⌝ }
     {
-        top.put_back();
-        left.put_back();
-        right.put_back();
-        Pile { top, left, right }
+        let mut pile = Pile { top, left, right };
+        pile.put_back();
+        pile
     }
 
     /// The side of a place and its place there, absent where there is no such place.
@@ -122,7 +124,12 @@ impl<T: Lock, L: Lock, R: Lock> Pile<T, L, R> {
     }
 
     // What follows a step at the top: a box that is out there leaves its side in the same call.
-    fn after_top(&mut self, side: Side, place: usize, result: Result<Answer, Refusal>) -> Result<Answer, Refusal>
+    fn after_top(
+        &mut self,
+        side: Side,
+        place: usize,
+        result: Result<Answer, Refusal>,
+    ) -> Result<Answer, Refusal>
         ensures { λ r. ⌜ AfterTop (T·Lock .takes) (L·Lock .takes) (R·Lock .takes) (answered-or result) side place (now (self .entry)) (answered-or r) (now (self .exit)) ⌝ }
     {
         let Ok(Answer::Out) = result else {
@@ -135,11 +142,11 @@ impl<T: Lock, L: Lock, R: Lock> Pile<T, L, R> {
 }
 
 pub impl<T: Lock, L: Lock, R: Lock> Lock for Pile<T, L, R> as PileLock {
-    ghost meaning = { λ s. pile-meaning (meanings (T·Lock .meaning) (L·Lock .meaning) (R·Lock .meaning) s) };
+    ghost meaning = { pile-means (T·Lock .meaning) (L·Lock .meaning) (R·Lock .meaning) };
 
     ghost takes = { PileTakes (T·Lock .takes) (L·Lock .takes) (R·Lock .takes) (meanings (T·Lock .meaning) (L·Lock .meaning) (R·Lock .meaning)) };
 
-    ghost made = { λ s. record { top = T·Lock .made (s .top); left = L·Lock .made (s .left); right = R·Lock .made (s .right) } };
+    ghost made = { pile-made (T·Lock .made) (L·Lock .made) (R·Lock .made) };
 
     ghost sound = { PileSound (T·Lock .sound) (L·Lock .sound) (R·Lock .sound) (meanings (T·Lock .meaning) (L·Lock .meaning) (R·Lock .meaning)) };
 
@@ -220,7 +227,9 @@ pub impl<T: Lock, L: Lock, R: Lock> Lock for Pile<T, L, R> as PileLock {
     }
 
     fn register_count(&self) -> usize {
-        (self.top.register_count() + self.left.register_count() + self.right.register_count()).min(REGISTER_LIMIT)
+        (self.top.register_count() + self.left.register_count() + self.right.register_count()).min(
+            REGISTER_LIMIT,
+        )
     }
 
     fn register(&self, index: usize) -> Option<u32> {
@@ -237,4 +246,15 @@ pub impl<T: Lock, L: Lock, R: Lock> Lock for Pile<T, L, R> as PileLock {
         }
         self.right.register(index - top - left)
     }
+}
+
+/// Makes one call on a pile with a pile at its left, whatever five locks they are made of.
+pub fn call_on_nested<Top: Lock, Upper: Lock, First: Lock, Second: Lock, Last: Lock>(
+    pile: &mut Pile<Top, Pile<Upper, First, Second>, Last>,
+    call: Call,
+) -> Reply
+    ensures outcome { λ r. ⌜ nested (form (Top·Lock .meaning) (Top·Lock .takes) (Top·Lock .made)) (form (Upper·Lock .meaning) (Upper·Lock .takes) (Upper·Lock .made)) (form (First·Lock .meaning) (First·Lock .takes) (First·Lock .made)) (form (Second·Lock .meaning) (Second·Lock .takes) (Second·Lock .made)) (form (Last·Lock .meaning) (Last·Lock .takes) (Last·Lock .made)) .takes (now (pile .entry)) call r (now (pile .exit)) ⌝ }
+    ensures promises { λ _. ⌜ PromisesOf (nested (form (Top·Lock .meaning) (Top·Lock .takes) (Top·Lock .made)) (form (Upper·Lock .meaning) (Upper·Lock .takes) (Upper·Lock .made)) (form (First·Lock .meaning) (First·Lock .takes) (First·Lock .made)) (form (Second·Lock .meaning) (Second·Lock .takes) (Second·Lock .made)) (form (Last·Lock .meaning) (Last·Lock .takes) (Last·Lock .made))) ⌝ }
+{
+    call_on(pile, call)
 }
