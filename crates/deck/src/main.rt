@@ -1,88 +1,50 @@
-mod words;
-
-use fault::Fault;
-use leaf::Peterson;
-use leaf::PetersonLock;
-use lock::Call;
-use lock::Kind;
-use lock::Lock;
-use lock::RefusalFault;
-use lock::Reply;
-use lock::call_on;
+use program::Outcome;
+use program::refusal_line;
+use program::run;
+use std::error::AnyError;
 use std::io;
-use words::letter_of_phase;
-use words::word_of_answer;
-use words::word_of_kind;
+use std::io::Read;
 
-// Both boxes bid, box 0 enters first, and box 1 waits until it is out again. Box 1 once tries to
-// leave before it holds.
-const CONTEST: [(Kind, usize); 16] = [
-    (Kind::Bid, 0),
-    (Kind::Bid, 1),
-    (Kind::Step, 0),
-    (Kind::Step, 1),
-    (Kind::Step, 0),
-    (Kind::Step, 1),
-    (Kind::Step, 1),
-    (Kind::Step, 0),
-    (Kind::Step, 1),
-    (Kind::Leave, 1),
-    (Kind::Leave, 0),
-    (Kind::Step, 0),
-    (Kind::Step, 1),
-    (Kind::Step, 1),
-    (Kind::Leave, 1),
-    (Kind::Step, 1),
-];
+// A pile number, and one byte more than the longest record has.
+const INPUT_LIMIT: usize = 40_018;
 
-fn print_call(rt: &LibcRuntime, call: Call, reply: Reply) -> io::Result<()> {
-    let kind = word_of_kind(call.kind);
-    let place = call.place;
-    match reply {
-        Reply::Taken => println!(rt, "{kind} {place} taken"),
-        Reply::Answered(answer) => {
-            let answer = word_of_answer(answer);
-            println!(rt, "{kind} {place} {answer}")
+// Fills the buffer from standard input, and says how many bytes came before its end or the buffer's.
+fn read_input(rt: &LibcRuntime, buffer: &mut [u8]) -> io::Result<usize> {
+    let mut stdin = rt.stdin();
+    let mut filled = 0;
+    while filled < buffer.len() {
+        let count = stdin.read(&mut buffer[filled..])?;
+        if count == 0 {
+            break;
         }
-        Reply::Refused(refusal) => {
-            let number = refusal.number();
-            let layer = refusal.layer().name();
-            match refusal.byte() {
-                Some(byte) => println!(rt, "{kind} {place} refusal {number} at {byte} {layer}"),
-                None => println!(rt, "{kind} {place} refusal {number} at none {layer}"),
-            }
+        filled += count;
+    }
+    Ok(filled)
+}
+
+// Replays what is on standard input and prints its lines; says whether it was accepted.
+fn replay_input(rt: &LibcRuntime) -> Result<bool, AnyError> {
+    let heap = rt.alloc();
+    let mut buffer = vec![in heap; 0; INPUT_LIMIT]?;
+    let length = read_input(rt, buffer.as_mut_slice())?;
+    let input = buffer.as_slice();
+    match run(heap, &input[0..length])? {
+        Outcome::Report(lines) => {
+            rt.print(lines)?;
+            Ok(true)
+        }
+        Outcome::Refused(fault) => {
+            rt.print(refusal_line(heap, &fault)?)?;
+            Ok(false)
         }
     }
 }
 
-fn print_registers<L: Lock>(rt: &LibcRuntime, lock: &L) -> io::Result<()> {
-    print!(rt, "registers")?;
-    for index in 0..lock.register_count() {
-        if let Some(value) = lock.register(index) {
-            print!(rt, " {value}")?;
-        }
+fn main(rt: LibcRuntime) -> Result<(), AnyError> {
+    match replay_input(&rt) {
+        Ok(true) => Ok(()),
+        // The refusal is printed already; the process ends with status 1.
+        Ok(false) => Err("refused".into()),
+        Err(error) => rt.report(Err(error)),
     }
-    println!(rt, "")
-}
-
-fn print_phases<L: Lock>(rt: &LibcRuntime, lock: &L) -> io::Result<()> {
-    print!(rt, "phases ")?;
-    for place in 0..lock.places() {
-        if let Some(phase) = lock.phase(place) {
-            let letter = letter_of_phase(phase);
-            print!(rt, "{letter}")?;
-        }
-    }
-    println!(rt, "")
-}
-
-fn main(rt: LibcRuntime) -> io::Result<()> {
-    let mut lock = Peterson::new();
-    for (kind, place) in CONTEST {
-        let call = Call { kind, place };
-        let reply = call_on(&mut lock, call);
-        print_call(&rt, call, reply)?;
-    }
-    print_registers(&rt, &lock)?;
-    print_phases(&rt, &lock)
 }

@@ -27,7 +27,7 @@ use Rattle.lock.specs.declared.Reply.the-variants.{Taken, Answered, Refused}
 use Rattle.lock.specs.Calls.{one-too-many}
 use Rattle.lock.specs.Meaning.{Meaning, Mark, shut, open-after, Active, WellFormed, SameSize, Turns, SamePhases, MarkWaited, Stepped, Accepted, Changes, Fresh, Keeps, refusal-of}
 use Rattle.leaf.specs.Boards.{Board, Action, Algorithm, Outcome, written, total, first-holding, mark-by, mark-within, action, box-at, phase-at, meaning-of, accepted, outcome-by, outcome, Tidy, Blank}
-use Rattle.leaf.proofs.Admitted.{Admitted, admitted, out-fits, holding-fits, active-fits}
+use Rattle.lock.proofs.Admitted.{Admitted, admitted, out-fits, holding-fits, active-fits}
 use Rattle.leaf.proofs.Obligations.{stored, register, Within, Change, Fitting, Correct, acting}
 use Rattle.leaf.proofs.Totals.{total-same, total-changed, first-holds, holds-first}
 

@@ -1,4 +1,3 @@
-mod Admitted
 mod BoardKeeps
 mod ByeCorrect
 mod Follows

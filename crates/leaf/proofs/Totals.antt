@@ -1,4 +1,4 @@
--- Sums over places, and the first place that holds. Assumes nothing.
+-- The first place that holds. Assumes nothing.
 use mathlib.Core.Path.{_≡_, refl, sym, ap, _∙_}
 use mathlib.Core.Logic.{_⊎_, inl, inr, ⊎-elim}
 use Prim.Native.Nat.{ℕ, zero, suc, _+_, _<_, _≤_}
@@ -8,27 +8,8 @@ use Rattle.std.specs.declared.option.Option.{Option}
 use Rattle.std.specs.declared.option.Option.the-variants.{Some, None}
 use Rattle.lock.specs.declared.Phase.{Phase}
 use Rattle.lock.specs.declared.Phase.the-variants.{Out, Bidding, Holding, Leaving}
-use Rattle.leaf.specs.Boards.{total, first-holding, or-here}
-
-pub total-same : (f g : ℕ → ℕ) (n : ℕ) → ((p : ℕ) → p < n → g p ≡ f p) → total g n ≡ total f n
-total-same f g zero h = refl
-total-same f g (suc n) h = omega (arith, h n (omega arith), total-same f g n (λ p l. h p (omega arith)))
-
--- where only place i changes, the sum changes by the difference there
-pub total-changed : (f g : ℕ → ℕ) (n i : ℕ) → i < n → ((p : ℕ) → (p ≡ i → ⊥) → g p ≡ f p) → total g n + f i ≡ total f n + g i
-total-changed f g zero i l h = omega (arith, l)
-total-changed f g (suc n) i l h =
-    ⊎-elim
-    (λ (e : i ≡ n).
-    let rest : total g n ≡ total f n = total-same f g n (λ p k. h p (λ (q : p ≡ i). omega arith)) in
-    let f-here = ap f e in
-    let g-here = ap g e in
-    omega arith)
-    (λ (ne : i ≡ n → ⊥).
-    let here = h n (λ (q : n ≡ i). ne (sym q)) in
-    let rest = total-changed f g n i (omega (arith, ne)) h in
-    omega arith)
-    (cases-eq i n)
+pub use Rattle.lock.proofs.Totals.{total-same, total-changed}
+use Rattle.leaf.specs.Boards.{first-holding, or-here}
 
 named-here : (f : ℕ → Phase) (n p : ℕ) (o : Option ℕ) (g : Phase) → (o ≡ Some p → f p ≡ Holding) → f n ≡ g → or-here o g n ≡ Some p → f p ≡ Holding
 named-here f n p (Some q) g before here e = before e

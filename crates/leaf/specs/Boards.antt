@@ -19,6 +19,7 @@ use Rattle.lock.specs.declared.Refusal.{Refusal}
 use Rattle.lock.specs.declared.Reply.{Reply}
 use Rattle.lock.specs.declared.Reply.the-variants.{Taken, Answered, Refused}
 use Rattle.lock.specs.Meaning.{Meaning, Mark, shut, open-after, refusal-of}
+pub use Rattle.lock.specs.Totals.{total}
 
 -- the boxes' records, the registers and the bids taken; X is the type of a box's record
 pub record Board (X : Type 0) : Type 0 where
@@ -74,11 +75,6 @@ or-here None Leaving n = None
 abbrev pub first-holding : (ℕ → Phase) → ℕ → Option ℕ
 first-holding f zero = None
 first-holding f (suc n) = or-here (first-holding f n) (f n) n
-
--- the sum of f over n places
-abbrev pub total : (ℕ → ℕ) → ℕ → ℕ
-total f zero = 0
-total f (suc n) = f n + total f n
 
 abbrev pub mark-by : Answer → Mark → Mark
 mark-by Waits shut = shut

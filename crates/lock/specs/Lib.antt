@@ -2,3 +2,4 @@ pub mod Calls
 pub mod Meaning
 pub mod Pasts
 pub mod Refusals
+pub mod Totals

@@ -1,0 +1,4 @@
+pub mod Finding
+pub mod PileMeaning
+pub mod PileCalls
+pub mod Joined
