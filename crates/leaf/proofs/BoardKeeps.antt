@@ -27,9 +27,10 @@ use Rattle.lock.specs.declared.Reply.the-variants.{Taken, Answered, Refused}
 use Rattle.lock.specs.Calls.{one-too-many}
 use Rattle.lock.specs.Meaning.{Meaning, Mark, shut, open-after, Active, WellFormed, SameSize, Turns, SamePhases, MarkWaited, Stepped, Accepted, Changes, Fresh, Keeps, refusal-of}
 use Rattle.leaf.specs.Boards.{Board, Action, Algorithm, Outcome, written, total, first-holding, mark-by, mark-within, action, box-at, phase-at, meaning-of, accepted, outcome-by, outcome, Tidy, Blank}
+use Rattle.lock.proofs.Totals.{total-changed}
 use Rattle.lock.proofs.Admitted.{Admitted, admitted, out-fits, holding-fits, active-fits}
 use Rattle.leaf.proofs.Obligations.{stored, register, Within, Change, Fitting, Correct, acting}
-use Rattle.leaf.proofs.Totals.{total-same, total-changed, first-holds, holds-first}
+use Rattle.leaf.proofs.FirstHolding.{first-holds, holds-first}
 
 stored-set : (rs : List ℕ) (k j v : ℕ) → j < length rs → getD (set rs j v) k 0 ≡ cond (eqb k j) v (getD rs k 0)
 stored-set rs k j v l =

@@ -1,6 +1,6 @@
 mod BoardKeeps
 mod ByeCorrect
+mod FirstHolding
 mod Follows
 mod Obligations
 mod PetersonCorrect
-mod Totals

@@ -6,7 +6,6 @@ use lib.Dec.{eqb}
 use lib.ListN.{take}
 use Prim.Native.Nat.{ℕ}
 use Rattle.std.specs.Of.String.{string-bytes}
-use Rattle.std.specs.Orderings.{When}
 use Rattle.std.specs.declared.option.Option.{Option}
 use Rattle.std.specs.declared.option.Option.the-variants.{Some, None}
 use Rattle.std.specs.declared.result.Result.{Result}
@@ -23,6 +22,8 @@ use Rattle.program.specs.declared.faults.ProgramFault.{ProgramFault}
 use Rattle.program.specs.declared.faults.ProgramFault.the-variants.{OfReplay, NoPile}
 use Rattle.program.specs.declared.runs.Outcome.{Outcome}
 use Rattle.program.specs.declared.runs.Outcome.the-variants.{Report, Refused}
+use Rattle.program.specs.declared.runs.PileName.{PileName}
+use Rattle.program.specs.declared.runs.PileName.the-variants.{OnePeterson}
 use Rattle.program.specs.Lines.{report-text}
 
 module _ {L : Type 0} (meaning : L → Meaning) (takes : L → Call → Reply → L → Type 0) (made : L → L) where
@@ -39,18 +40,23 @@ module _ {L : Type 0} (meaning : L → Meaning) (takes : L → Call → Reply �
   Played s pile bs slots (Refused e) = (f : ReplayFault) × (e ≡ OfReplay f) × (replay-test (meaning s .places) slots bs ≡ Err f)
   Played s pile bs slots (Report text) = (replay-test (meaning s .places) slots bs ≡ Ok tt) × Reports s pile bs (string-bytes text)
 
+-- which pile a number names
+abbrev pub pile-of : ℕ → Option PileName
+pile-of k = cond (eqb k 1) (Some OnePeterson) None
+
 -- the bytes of an input that are handed on as a record: one more than a record can have
 abbrev pub handed-on : List ℕ → List ℕ
 handed-on bs = take 40017 bs
 
-abbrev pub slots : ℕ
-slots = 20000
+-- what becomes of a record on a pile
+abbrev pub OnPile : PileName → ℕ → List ℕ → ℕ → Outcome → Type 0
+OnPile OnePeterson number bs slots o = Played peterson-meaning PetersonTakes (λ s. peterson-made) peterson-made number bs slots o
 
--- what becomes of a record, by the number of its pile; no other number is a pile's
-abbrev pub OnPile : ℕ → List ℕ → Outcome → Type 0
-OnPile pile bs o = When (eqb pile 1) (Played peterson-meaning PetersonTakes (λ s. peterson-made) peterson-made 1 bs slots o) (o ≡ Refused NoPile)
+abbrev pub OnPileOrNone : Option PileName → ℕ → List ℕ → Outcome → Type 0
+OnPileOrNone None number bs o = o ≡ Refused NoPile
+OnPileOrNone (Some pile) number bs o = OnPile pile number bs 20000 o
 
--- what the program makes of an input: the pile number is tested first
+-- what the program makes of an input: its first byte names the pile, which is tested first
 abbrev pub Runs : List ℕ → Outcome → Type 0
 Runs [] o = o ≡ Refused NoPile
-Runs (pile ∷ bs) o = OnPile pile (handed-on bs) o
+Runs (number ∷ bs) o = OnPileOrNone (pile-of number) number (handed-on bs) o

@@ -1,7 +1,7 @@
 ghost use mathlib.Core.Path.{_≡_};
 ghost use lib.ListN.{length};
 ghost use Rattle.std.specs.Vec.{made};
-ghost use Rattle.program.specs.Runs.{Played, Runs};
+ghost use Rattle.program.specs.Runs.{Played, pile-of, OnPile, handed-on, Runs};
 use super::faults::ProgramFault;
 use super::faults::ProgramFaultFromReplay;
 use super::text::report_lines;
@@ -18,6 +18,12 @@ const RECORD_LIMIT: usize = 40_017;
 
 // A slot for each call of the longest record.
 const SLOTS: usize = 20_000;
+
+// The piles that the program offers.
+#[derive(Clone, Copy)]
+enum PileName {
+    OnePeterson,
+}
 
 /// What the program makes of an input: the lines of a replay, or the fault.
 #[derive(Drop)]
@@ -40,6 +46,36 @@ fn play<L: Lock>(heap: Global, pile: u8, lock: &mut L, bytes: &[u8], log: &mut [
     }
 }
 
+// The pile that a number names.
+fn pile_of(number: u8) -> Option<PileName>
+    ensures { λ r. ⌜ r ≡ pile-of number ⌝ }
+{
+    match number {
+        1 => Some(PileName::OnePeterson),
+        _ => None,
+    }
+}
+
+// Replays a record on a new lock of the pile, with this log.
+fn run_pile(heap: Global, pile: PileName, number: u8, bytes: &[u8], log: &mut [Entry]) -> Result<Outcome, AllocError>
+    ensures { λ r. ⌜ made r (λ o. OnPile pile number (now (bytes .entry)) (length (now (log .entry))) o) ⌝ }
+{
+    match pile {
+        PileName::OnePeterson => {
+            let mut lock = Peterson::new();
+            play(heap, number, &mut lock, bytes, log)
+        }
+    }
+}
+
+// The bytes that are handed on as a record.
+fn handed_on(bytes: &[u8]) -> &[u8]
+    ensures { λ r. ⌜ now r ≡ handed-on (now (bytes .entry)) ⌝ }
+{
+    let length = bytes.len().min(RECORD_LIMIT);
+    &bytes[0..length]
+}
+
 /// Runs an input: a byte with the number of a pile, and then a record, of which at most 40,017
 /// bytes are handed on.
 ///
@@ -48,14 +84,12 @@ fn play<L: Lock>(heap: Global, pile: u8, lock: &mut L, bytes: &[u8], log: &mut [
 pub fn run(heap: Global, input: &[u8]) -> Result<Outcome, AllocError>
     ensures { λ r. ⌜ made r (λ o. Runs (now (input .entry)) o) ⌝ }
 {
-    let [pile, rest @ ..] = input else {
+    let [number, rest @ ..] = input else {
         return Ok(Outcome::Refused(ProgramFault::NoPile));
     };
-    let length = rest.len().min(RECORD_LIMIT);
-    let bytes = &rest[0..length];
+    let Some(pile) = pile_of(*number) else {
+        return Ok(Outcome::Refused(ProgramFault::NoPile));
+    };
     let mut log = vec![in heap; Entry { call: 0, place: 0 }; SLOTS]?;
-    match *pile {
-        1 => play(heap, 1, &mut Peterson::new(), bytes, log.as_mut_slice()),
-        _ => Ok(Outcome::Refused(ProgramFault::NoPile)),
-    }
+    run_pile(heap, pile, *number, handed_on(rest), log.as_mut_slice())
 }

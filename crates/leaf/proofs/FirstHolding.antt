@@ -8,7 +8,6 @@ use Rattle.std.specs.declared.option.Option.{Option}
 use Rattle.std.specs.declared.option.Option.the-variants.{Some, None}
 use Rattle.lock.specs.declared.Phase.{Phase}
 use Rattle.lock.specs.declared.Phase.the-variants.{Out, Bidding, Holding, Leaving}
-pub use Rattle.lock.proofs.Totals.{total-same, total-changed}
 use Rattle.leaf.specs.Boards.{first-holding, or-here}
 
 named-here : (f : ℕ → Phase) (n p : ℕ) (o : Option ℕ) (g : Phase) → (o ≡ Some p → f p ≡ Holding) → f n ≡ g → or-here o g n ≡ Some p → f p ≡ Holding
