@@ -1,4 +1,8 @@
+ghost use lib.ListN.{length};
+ghost use Prim.Native.Nat.{_≤_};
+ghost use Rattle.std.specs.Vec.{made};
 use program::Outcome;
+use program::ProgramFaultFault;
 use program::refusal_line;
 use program::run;
 use std::error::AnyError;
@@ -9,7 +13,9 @@ use std::io::Read;
 const INPUT_LIMIT: usize = 40_018;
 
 // Fills the buffer from standard input, and says how many bytes came before its end or the buffer's.
-fn read_input(rt: &LibcRuntime, buffer: &mut [u8]) -> io::Result<usize> {
+fn read_input(rt: &LibcRuntime, buffer: &mut [u8]) -> io::Result<usize>
+    ensures { λ r. ⌜ made r (λ n. n ≤ length (now (buffer .entry))) ⌝ }
+{
     let mut stdin = rt.stdin();
     let mut filled = 0;
     while filled < buffer.len() {
