@@ -1,9 +1,7 @@
 -- How the meaning of a pile changes when one place of a side and its place at the top do. Assumes nothing.
-use mathlib.Core.Path.{_≡_, refl, sym, ap, subst, _∙_}
+use mathlib.Core.Path.{_≡_, refl, sym, ap, _∙_}
 use mathlib.Core.Logic.{⊎-elim}
-use mathlib.Core.List.{List, _++_}
-use lib.ListN.{take}
-use Prim.Native.Nat.{ℕ, _+_, _*_, _<_, _≤_, _^_, _-_, min, max}
+use Prim.Native.Nat.{ℕ, _+_, _<_, _≤_}
 use native.Mathlib.Omega.{arith}
 use Rattle.std.proofs.shelf.Tests.{cases-eq}
 use Rattle.std.specs.declared.option.Option.{Option}
@@ -15,8 +13,8 @@ use Rattle.lock.specs.Totals.{total}
 use Rattle.lock.proofs.Totals.{total-changed}
 use Rattle.pile.specs.declared.Side.{Side}
 use Rattle.pile.specs.declared.Side.the-variants.{Left, Right}
-use Rattle.pile.specs.Finding.{Meanings, side-of, top-place, pile-places, room, found}
-use Rattle.pile.specs.PileMeaning.{own-or-top, box-phase, box-mark, of-box, reserve, share, pile-bids, pile-meaning}
+use Rattle.pile.specs.Finding.{Meanings, side-of, top-place, room, found}
+use Rattle.pile.specs.PileMeaning.{own-or-top, box-phase, box-mark, of-box, reserve, share, pile-meaning}
 use Rattle.pile.specs.Joined.{bids-now, bidders, Joined}
 use Rattle.pile.proofs.Places.{other, each-side, top-places-apart, low-top-place, place-of, room-within, found-is}
 

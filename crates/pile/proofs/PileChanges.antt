@@ -2,37 +2,29 @@
 -- parts stay joined. Assumes nothing.
 use mathlib.Core.Path.{_≡_, refl, sym, ap, subst, subst₂, _∙_}
 use mathlib.Core.Logic.{_⊎_, inl, inr, ⊎-elim}
-use mathlib.Core.Bool.{Bool, true, false, cond}
-use lib.Dec.{leb}
+use mathlib.Core.Bool.{true, false}
 use Prim.Native.Nat.{ℕ, _+_, _<_, _≤_}
 use native.Mathlib.Omega.{arith}
-use Rattle.std.proofs.shelf.Tests.{lt-leb, leb-false, cases-eq}
+use Rattle.std.proofs.shelf.Tests.{lt-leb, cases-eq}
 use Rattle.std.specs.declared.option.Option.{Option}
 use Rattle.std.specs.declared.option.Option.the-variants.{Some, None}
 use Rattle.lock.specs.declared.Phase.{Phase}
 use Rattle.lock.specs.declared.Phase.the-variants.{Out, Bidding, Holding, Leaving}
-use Rattle.lock.specs.declared.Answer.{Answer}
-use Rattle.lock.specs.declared.Answer.the-variants.{Waits, Moves, Enters, Out as Gone}
 use Rattle.lock.specs.declared.Kind.{Kind}
-use Rattle.lock.specs.declared.Kind.the-variants.{Bid, Step, Leave}
+use Rattle.lock.specs.declared.Kind.the-variants.{Bid, Leave}
 use Rattle.lock.specs.declared.Call.{Call}
 use Rattle.lock.specs.declared.Refusal.{Refusal}
-use Rattle.lock.specs.declared.Refusal.the-variants.{NoPlace, WrongPhase, BidsSpent}
 use Rattle.lock.specs.declared.Reply.{Reply}
-use Rattle.lock.specs.declared.Reply.the-variants.{Taken, Answered, Refused}
-use Rattle.lock.specs.Calls.{bid-by, step-by, leave-by, fits, one-too-many, refusal}
-use Rattle.lock.specs.Meaning.{Meaning, WellFormed, SameSize, Turns, SamePhases, MarkWaited, Waited, Moved, Entered, GoneOut, Stepped, TurnTaken, Accepted, Changes, refusal-of, shut}
-use Rattle.lock.proofs.Admitted.{admitted, out-fits, holding-fits}
+use Rattle.lock.specs.Calls.{bid-by, leave-by, fits, one-too-many, refusal}
+use Rattle.lock.specs.Meaning.{Meaning, WellFormed, SameSize, Turns, SamePhases, MarkWaited, Waited, Moved, Entered, GoneOut, TurnTaken, Changes, refusal-of, shut}
 use Rattle.lock.proofs.Totals.{total-has}
 use Rattle.pile.specs.declared.Side.{Side}
 use Rattle.pile.specs.declared.Side.the-variants.{Left, Right}
-use Rattle.pile.specs.declared.Pile.{Pile}
 use Rattle.pile.specs.Finding.{Meanings, side-of, top-place, pile-places, room, found}
-use Rattle.pile.specs.PileMeaning.{own-or-top, box-phase, box-mark, of-box, reserve, pile-bids, pile-meaning}
-use Rattle.pile.specs.PileCalls.{TopTakes, SideTakes, BidAt, AfterSide, AfterTop, SideSteps, TopSteps, StepAt, LeaveAt, CallAt, CallOf, PileTakes}
+use Rattle.pile.specs.PileMeaning.{own-or-top, box-phase, box-mark, of-box, reserve, pile-meaning}
 use Rattle.pile.specs.Joined.{bids-now, bidders, Joined}
-use Rattle.pile.proofs.Places.{other, each-side, top-places-apart, place-of, room-within, top-used, placed, found-is, found-none}
-use Rattle.pile.proofs.Events.{Formed, Event, own-chosen, unturned, turned-same, same-size, bids-split, sizes, same-found, turned, counted, joined-after, joined-kept, credit-before, credit-after, same-registers, same-marks}
+use Rattle.pile.proofs.Places.{other, top-places-apart, room-within, top-used, placed, found-is}
+use Rattle.pile.proofs.Events.{Formed, Event, own-chosen, unturned, turned-same, same-size, bids-split, sizes, same-found, turned, joined-after, joined-kept, credit-before, credit-after, same-registers, same-marks}
 
 abbrev pub call : Kind → ℕ → Call
 call k p = record { kind = k; place = p }

@@ -1,11 +1,8 @@
 -- A pile whose parts are well formed and joined is well formed. Assumes nothing.
 use mathlib.Core.Path.{_≡_, refl, sym, ap, subst, _∙_}
 use mathlib.Core.Logic.{_⊎_, inl, inr, ⊎-elim}
-use mathlib.Core.Bool.{true, false, cond}
 use mathlib.Core.List.{_++_}
-use lib.Dec.{ltb}
-use lib.ListN.{length, take}
-use Prim.Native.Nat.{ℕ, zero, suc, _+_, _<_, _≤_, max}
+use Prim.Native.Nat.{ℕ, zero, suc, _+_, _<_, _≤_}
 use native.Mathlib.Omega.{arith}
 use Rattle.std.proofs.shelf.Lists.{length-take}
 use Rattle.std.proofs.shelf.Tests.{lt-ltb, le-ltb, cases-lt}
@@ -13,11 +10,11 @@ use Rattle.std.specs.declared.option.Option.{Option}
 use Rattle.std.specs.declared.option.Option.the-variants.{Some, None}
 use Rattle.lock.specs.declared.Phase.{Phase}
 use Rattle.lock.specs.declared.Phase.the-variants.{Out, Bidding, Holding, Leaving}
-use Rattle.lock.specs.Meaning.{Meaning, Mark, WellFormed, Active, shut, open-after}
+use Rattle.lock.specs.Meaning.{WellFormed, Active, shut, open-after}
 use Rattle.pile.specs.declared.Side.{Side}
 use Rattle.pile.specs.declared.Side.the-variants.{Left, Right}
-use Rattle.pile.specs.Finding.{Meanings, side-of, top-place, pile-places, room, found}
-use Rattle.pile.specs.PileMeaning.{own-or-top, box-phase, box-mark, of-box, shifted, holder-by, reserve, share, pile-meaning}
+use Rattle.pile.specs.Finding.{Meanings, side-of, top-place, room, found}
+use Rattle.pile.specs.PileMeaning.{own-or-top, box-phase, box-mark, of-box, shifted, holder-by, reserve, pile-meaning}
 use Rattle.pile.specs.Joined.{Joined}
 use Rattle.pile.proofs.Places.{side-with, place-of, all-left, few-all, found-at, found-is, found-none}
 use Rattle.pile.proofs.Events.{Formed, own-chosen}

@@ -1,5 +1,5 @@
 -- A pile of three locks that keep the meaning of a lock keeps it too. Assumes nothing.
-use mathlib.Core.Path.{_≡_, refl, sym, ap, subst, _∙_}
+use mathlib.Core.Path.{_≡_, sym, ap, subst, _∙_}
 use Prim.Native.Nat.{ℕ}
 use native.Mathlib.Omega.{arith}
 use Rattle.std.specs.declared.option.Option.{Option}
@@ -22,8 +22,8 @@ use Rattle.pile.specs.declared.Side.the-variants.{Left, Right}
 use Rattle.pile.specs.declared.Pile.{Pile}
 use Rattle.pile.specs.Finding.{Meanings, side-of, top-place, found}
 use Rattle.pile.specs.PileMeaning.{pile-bids}
-use Rattle.pile.specs.PileCalls.{meanings, pile-means, pile-made, Refuses, TopTakes, SideTakes, BidAt, AfterSide, AfterTop, SideSteps, TopSteps, StepAt, LeaveAt, CallAt, CallOf, PileTakes}
-use Rattle.pile.specs.Joined.{Joined, PileSound}
+use Rattle.pile.specs.PileCalls.{meanings, pile-means, pile-made, TopTakes, SideTakes, BidAt, AfterSide, AfterTop, SideSteps, TopSteps, StepAt, LeaveAt, CallAt, CallOf, PileTakes}
+use Rattle.pile.specs.Joined.{PileSound}
 use Rattle.pile.proofs.Events.{Formed, pile-sizes}
 use Rattle.pile.proofs.PileFormed.{pile-formed}
 use Rattle.pile.proofs.PileMade.{made-joined, made-fresh}

@@ -1,15 +1,15 @@
 -- A pile of parts just made is one just made, and its parts are joined. Assumes nothing.
-use mathlib.Core.Path.{_≡_, refl, sym, ap, subst, _∙_}
+use mathlib.Core.Path.{_≡_, refl, sym, ap, _∙_}
 use mathlib.Core.Logic.{⊎-elim}
 use lib.ListN.{length}
-use Prim.Native.Nat.{ℕ, _+_, _-_, _<_, _≤_}
+use Prim.Native.Nat.{ℕ, _-_, _<_, _≤_}
 use native.Mathlib.Omega.{arith}
 use Rattle.std.proofs.shelf.Tests.{cases-lt}
 use Rattle.std.specs.declared.option.Option.{Option}
 use Rattle.std.specs.declared.option.Option.the-variants.{Some, None}
 use Rattle.lock.specs.declared.Phase.{Phase}
-use Rattle.lock.specs.declared.Phase.the-variants.{Out, Holding}
-use Rattle.lock.specs.Meaning.{Meaning, Fresh, register-answer}
+use Rattle.lock.specs.declared.Phase.the-variants.{Out}
+use Rattle.lock.specs.Meaning.{Fresh, register-answer}
 use Rattle.lock.proofs.Totals.{total-none}
 use Rattle.pile.specs.declared.Side.{Side}
 use Rattle.pile.specs.declared.Side.the-variants.{Left, Right}

@@ -1,10 +1,9 @@
 -- A call on a pile whose parts change as locks do changes the pile as a lock. Assumes nothing.
 use mathlib.Core.Path.{_≡_, refl, sym, ap, subst, _∙_}
-use mathlib.Core.Bool.{Bool, true, false, cond}
-use lib.Dec.{leb}
-use Prim.Native.Nat.{ℕ, _+_, _<_, _≤_}
+use mathlib.Core.Bool.{false}
+use Prim.Native.Nat.{ℕ, _+_, _<_}
 use native.Mathlib.Omega.{arith}
-use Rattle.std.proofs.shelf.Tests.{lt-leb, le-leb, leb-false, cases-lt}
+use Rattle.std.proofs.shelf.Tests.{lt-leb, le-leb, leb-false}
 use Rattle.std.specs.declared.option.Option.{Option}
 use Rattle.std.specs.declared.option.Option.the-variants.{Some, None}
 use Rattle.lock.specs.declared.Phase.{Phase}
@@ -15,11 +14,11 @@ use Rattle.lock.specs.declared.Kind.{Kind}
 use Rattle.lock.specs.declared.Kind.the-variants.{Bid, Step, Leave}
 use Rattle.lock.specs.declared.Call.{Call}
 use Rattle.lock.specs.declared.Refusal.{Refusal}
-use Rattle.lock.specs.declared.Refusal.the-variants.{NoPlace, WrongPhase, BidsSpent}
+use Rattle.lock.specs.declared.Refusal.the-variants.{NoPlace, WrongPhase}
 use Rattle.lock.specs.declared.Reply.{Reply}
-use Rattle.lock.specs.declared.Reply.the-variants.{Taken, Answered, Refused}
+use Rattle.lock.specs.declared.Reply.the-variants.{Answered, Refused}
 use Rattle.lock.specs.Calls.{bid-by, step-by, leave-by, fits, one-too-many, refusal}
-use Rattle.lock.specs.Meaning.{Meaning, WellFormed, SameSize, Stepped, TurnTaken, Accepted, Changes, refusal-of}
+use Rattle.lock.specs.Meaning.{Meaning, WellFormed, SameSize, Stepped, Changes, refusal-of}
 use Rattle.lock.proofs.Admitted.{admitted, out-fits, holding-fits}
 use Rattle.pile.specs.declared.Side.{Side}
 use Rattle.pile.specs.declared.Side.the-variants.{Left, Right}
@@ -30,7 +29,7 @@ use Rattle.pile.specs.PileCalls.{TopTakes, SideTakes, BidAt, AfterSide, AfterT
 use Rattle.pile.specs.Joined.{Joined}
 use Rattle.pile.proofs.Places.{other, each-side, none-found}
 use Rattle.pile.proofs.Events.{Formed, same-size, bids-split, pile-sizes}
-use Rattle.pile.proofs.PileChanges.{call, few, pile-within, side-within, top-within, phase-is, phase-below, phase-above, refused-alike, not-refused, side-bidden, same-bids-below, side-kept, side-waited, side-moved, side-gone, same-bids-above, top-left, top-kept, top-waited, top-moved, top-entered, climbed, descended}
+use Rattle.pile.proofs.PileChanges.{call, pile-within, side-within, top-within, phase-is, phase-below, phase-above, refused-alike, not-refused, side-bidden, same-bids-below, side-kept, side-waited, side-moved, side-gone, same-bids-above, top-left, top-kept, top-waited, top-moved, top-entered, climbed, descended}
 
 -- a part changes as a call on a lock may change what it means
 abbrev pub Altered : Meaning → Call → Reply → Meaning → Type 0

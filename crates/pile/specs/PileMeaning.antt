@@ -11,7 +11,6 @@ use Rattle.lock.specs.declared.Phase.the-variants.{Out, Bidding, Holding, Leavi
 use Rattle.lock.specs.Meaning.{Meaning, Mark, shut}
 use Rattle.pile.specs.declared.Side.{Side}
 use Rattle.pile.specs.declared.Side.the-variants.{Left, Right}
-use Rattle.pile.specs.declared.Pile.{Pile}
 use Rattle.pile.specs.Finding.{Meanings, side-of, top-place, pile-places, room, found}
 
 -- the side's own, or the top's where the side's phase is holding

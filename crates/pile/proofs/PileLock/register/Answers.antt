@@ -2,7 +2,6 @@
 use mathlib.Core.Path.{sym, _∙_}
 use native.Mathlib.Omega.{arith}
 use Prim.Native.Nat.{_-_}
-use Rattle.pile.specs.Finding.{Meanings}
 use Rattle.pile.specs.PileCalls.{meanings}
 use Rattle.pile.proofs.Registers.{none-past-limit, one-of-top, one-of-left, one-of-right}
 use Rattle.pile.proofs.PileLock.register.Needs as need

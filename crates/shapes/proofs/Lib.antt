@@ -1,0 +1,2 @@
+mod LeafRuns
+mod Runs
