@@ -14,7 +14,9 @@ use Rattle.lock.specs.declared.Call.{Call}
 use Rattle.lock.specs.declared.Reply.{Reply}
 use Rattle.lock.specs.Meaning.{Meaning}
 use Rattle.lock.specs.Pasts.{Event, Past}
-use Rattle.leaf.specs.PetersonLines.{peterson-meaning, PetersonTakes, peterson-made}
+use Rattle.leaf.specs.PetersonLines.{peterson-made}
+use Rattle.pile.specs.PileCalls.{Form}
+use Rattle.shapes.specs.Shapes.{peterson-form, eight-form, eight-made, three-form, three-made}
 use Rattle.replay.specs.declared.faults.ReplayFault.{ReplayFault}
 use Rattle.replay.specs.Replays.{replay-test, calls-made, record-calls}
 use Rattle.replay.specs.Reports.{entries, summary-of}
@@ -23,7 +25,7 @@ use Rattle.program.specs.declared.faults.ProgramFault.the-variants.{OfReplay, 
 use Rattle.program.specs.declared.runs.Outcome.{Outcome}
 use Rattle.program.specs.declared.runs.Outcome.the-variants.{Report, Refused}
 use Rattle.program.specs.declared.runs.PileName.{PileName}
-use Rattle.program.specs.declared.runs.PileName.the-variants.{OnePeterson}
+use Rattle.program.specs.declared.runs.PileName.the-variants.{OnePeterson, EightBoxes, ByeAndPeterson}
 use Rattle.program.specs.Lines.{report-text}
 
 module _ {L : Type 0} (meaning : L → Meaning) (takes : L → Call → Reply → L → Type 0) (made : L → L) where
@@ -40,9 +42,13 @@ module _ {L : Type 0} (meaning : L → Meaning) (takes : L → Call → Reply �
   Played s pile bs slots (Refused e) = (f : ReplayFault) × (e ≡ OfReplay f) × (replay-test (meaning s .places) slots bs ≡ Err f)
   Played s pile bs slots (Report text) = (replay-test (meaning s .places) slots bs ≡ Ok tt) × Reports s pile bs (string-bytes text)
 
+abbrev pub PlayedOn : {L : Type 0} → Form L → L → ℕ → List ℕ → ℕ → Outcome → Type 0
+PlayedOn f = Played (f .meaning) (f .takes) (f .made)
+
 -- which pile a number names
 abbrev pub pile-of : ℕ → Option PileName
-pile-of k = cond (eqb k 1) (Some OnePeterson) None
+pile-of k =
+    cond (eqb k 1) (Some OnePeterson) (cond (eqb k 4) (Some EightBoxes) (cond (eqb k 6) (Some ByeAndPeterson) None))
 
 -- the bytes of an input that are handed on as a record: one more than a record can have
 abbrev pub handed-on : List ℕ → List ℕ
@@ -50,7 +56,9 @@ handed-on bs = take 40017 bs
 
 -- what becomes of a record on a pile
 abbrev pub OnPile : PileName → ℕ → List ℕ → ℕ → Outcome → Type 0
-OnPile OnePeterson number bs slots o = Played peterson-meaning PetersonTakes (λ s. peterson-made) peterson-made number bs slots o
+OnPile OnePeterson number bs slots o = PlayedOn peterson-form peterson-made number bs slots o
+OnPile EightBoxes number bs slots o = PlayedOn eight-form eight-made number bs slots o
+OnPile ByeAndPeterson number bs slots o = PlayedOn three-form three-made number bs slots o
 
 abbrev pub OnPileOrNone : Option PileName → ℕ → List ℕ → Outcome → Type 0
 OnPileOrNone None number bs o = o ≡ Refused NoPile

@@ -5,11 +5,15 @@ ghost use Rattle.program.specs.Runs.{Played, pile-of, OnPile, handed-on, Runs}
 use super::faults::ProgramFault;
 use super::faults::ProgramFaultFromReplay;
 use super::text::report_lines;
+use leaf::ByeLock;
 use leaf::Peterson;
 use leaf::PetersonLock;
 use lock::Lock;
+use pile::PileLock;
 use replay::Entry;
 use replay::replay;
+use shapes::pile_four;
+use shapes::pile_six;
 use std::alloc::AllocError;
 use std::alloc::Global;
 
@@ -23,6 +27,8 @@ const SLOTS: usize = 20_000;
 #[derive(Clone, Copy)]
 enum PileName {
     OnePeterson,
+    EightBoxes,
+    ByeAndPeterson,
 }
 
 /// What the program makes of an input: the lines of a replay, or the fault.
@@ -52,6 +58,8 @@ fn pile_of(number: u8) -> Option<PileName>
 {
     match number {
         1 => Some(PileName::OnePeterson),
+        4 => Some(PileName::EightBoxes),
+        6 => Some(PileName::ByeAndPeterson),
         _ => None,
     }
 }
@@ -63,6 +71,14 @@ fn run_pile(heap: Global, pile: PileName, number: u8, bytes: &[u8], log: &mut [E
     match pile {
         PileName::OnePeterson => {
             let mut lock = Peterson::new();
+            play(heap, number, &mut lock, bytes, log)
+        }
+        PileName::EightBoxes => {
+            let mut lock = pile_four();
+            play(heap, number, &mut lock, bytes, log)
+        }
+        PileName::ByeAndPeterson => {
+            let mut lock = pile_six();
             play(heap, number, &mut lock, bytes, log)
         }
     }

@@ -2,10 +2,10 @@
 use Rattle.lock.specs.Meaning.{Meaning}
 use Rattle.leaf.specs.declared.bye.Bye.{Bye}
 use Rattle.leaf.specs.declared.peterson.Peterson.{Peterson}
-use Rattle.leaf.specs.ByeLines.{bye-meaning, bye-made}
-use Rattle.leaf.specs.PetersonLines.{peterson-meaning, peterson-made}
+use Rattle.leaf.specs.ByeLines.{bye-meaning, ByeTakes, bye-made}
+use Rattle.leaf.specs.PetersonLines.{peterson-meaning, PetersonTakes, peterson-made}
 use Rattle.pile.specs.declared.Pile.{Pile}
-use Rattle.pile.specs.PileCalls.{pile-means}
+use Rattle.pile.specs.PileCalls.{Form, form, piled, pile-means}
 
 -- Peterson's lock over two of its kind: four boxes
 abbrev pub Four : Type 0
@@ -36,3 +36,20 @@ eight-made = record { top = peterson-made; left = four-made; right = four-made }
 
 abbrev pub three-made : Three
 three-made = record { top = peterson-made; left = bye-made; right = peterson-made }
+
+-- the locks by what they mean, what their calls do and what they are just made
+
+abbrev pub bye-form : Form Bye
+bye-form = form bye-meaning ByeTakes (λ s. bye-made)
+
+abbrev pub peterson-form : Form Peterson
+peterson-form = form peterson-meaning PetersonTakes (λ s. peterson-made)
+
+abbrev pub four-form : Form Four
+four-form = piled peterson-form peterson-form peterson-form
+
+abbrev pub eight-form : Form Eight
+eight-form = piled peterson-form four-form four-form
+
+abbrev pub three-form : Form Three
+three-form = piled peterson-form bye-form peterson-form
