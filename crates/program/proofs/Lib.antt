@@ -1,2 +1,4 @@
+mod Determined
 mod Handing
 mod Joining
+mod TwoBoxes

@@ -1,3 +1,4 @@
+pub mod examples;
 mod faults;
 mod runs;
 mod text;
