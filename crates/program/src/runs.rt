@@ -39,7 +39,13 @@ pub enum Outcome {
 }
 
 // Replays a record on the lock of a pile, with this log.
-fn play<L: Lock>(heap: Global, pile: u8, lock: &mut L, bytes: &[u8], log: &mut [Entry]) -> Result<Outcome, AllocError>
+fn play<L: Lock>(
+    heap: Global,
+    pile: u8,
+    lock: &mut L,
+    bytes: &[u8],
+    log: &mut [Entry],
+) -> Result<Outcome, AllocError>
     ensures { λ r. ⌜ made r (λ o. Played (L·Lock .meaning) (L·Lock .takes) (L·Lock .made) (now (lock .entry)) pile (now (bytes .entry)) (length (now (log .entry))) o) ⌝ }
 {
     match replay(lock, bytes, log) {
@@ -65,7 +71,13 @@ fn pile_of(number: u8) -> Option<PileName>
 }
 
 // Replays a record on a new lock of the pile, with this log.
-fn run_pile(heap: Global, pile: PileName, number: u8, bytes: &[u8], log: &mut [Entry]) -> Result<Outcome, AllocError>
+fn run_pile(
+    heap: Global,
+    pile: PileName,
+    number: u8,
+    bytes: &[u8],
+    log: &mut [Entry],
+) -> Result<Outcome, AllocError>
     ensures { λ r. ⌜ made r (λ o. OnPile pile number (now (bytes .entry)) (length (now (log .entry))) o) ⌝ }
 {
     match pile {

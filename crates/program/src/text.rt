@@ -79,7 +79,12 @@ fn push_numbers(text: &mut String, heap: Global, numbers: &[usize]) -> Result<()
     Ok(())
 }
 
-fn push_line(text: &mut String, heap: Global, word: &str, numbers: &[usize]) -> Result<(), AllocError>
+fn push_line(
+    text: &mut String,
+    heap: Global,
+    word: &str,
+    numbers: &[usize],
+) -> Result<(), AllocError>
     ensures { λ r. ⌜ made r (λ _. string-bytes (now (text .exit)) ≡ string-bytes (now (text .entry)) ++ numbers-line (now (word .entry)) (now (numbers .entry))) ⌝ }
 {
     text.push_str(word)?;
@@ -146,13 +151,27 @@ fn push_phase_line<L: Lock>(text: &mut String, lock: &L) -> Result<(), AllocErro
 fn push_counts(text: &mut String, heap: Global, counts: Counts) -> Result<(), AllocError>
     ensures { λ r. ⌜ made r (λ _. string-bytes (now (text .exit)) ≡ string-bytes (now (text .entry)) ++ numbers-line (codes "counts") (counts-in-order counts)) ⌝ }
 {
-    let numbers = [counts.bids, counts.leaves, counts.waits, counts.moves, counts.enters, counts.outs, counts.refused];
+    let numbers = [
+        counts.bids,
+        counts.leaves,
+        counts.waits,
+        counts.moves,
+        counts.enters,
+        counts.outs,
+        counts.refused,
+    ];
     push_line(text, heap, "counts", &numbers)
 }
 
 /// The lines of a replay: the pile with its places and calls, the entries, the counts, gap and
 /// passed, and the lock's registers and phases. Fails only for want of memory.
-pub fn report_lines<L: Lock>(heap: Global, pile: u8, lock: &L, entries: &[Entry], summary: Summary) -> Result<String, AllocError>
+pub fn report_lines<L: Lock>(
+    heap: Global,
+    pile: u8,
+    lock: &L,
+    entries: &[Entry],
+    summary: Summary,
+) -> Result<String, AllocError>
     ensures { λ r. ⌜ made r (λ t. string-bytes t ≡ report-text pile (L·Lock .meaning (now (lock .entry))) (now (entries .entry)) summary) ⌝ }
 {
     let mut text = head_line(heap, pile, lock.places(), summary.calls)?;

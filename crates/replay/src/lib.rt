@@ -66,12 +66,19 @@ fn make_call<L: Lock>(
     reply
 }
 
+// The lock as its making left it.
+fn make_anew<L: Lock>(lock: &mut L)
+    ensures { λ _. ⌜ now (lock .exit) ≡ L·Lock .made (now (lock .entry)) ⌝ }
+{
+    lock.put_back();
+}
+
 // Puts the lock back and makes each call of a record that has passed its tests.
 fn make_calls<L: Lock>(lock: &mut L, mut reader: Reader<'_>, log: &mut [Entry]) -> Summary
     requires { ⌜ AtStart (reading reader) ⌝ ∗ ⌜ reading reader .call-count ≤ length (now log) ⌝ }
     ensures { λ r. ⌜ Replayed (L·Lock .meaning) (L·Lock .takes) (L·Lock .made) (now (lock .entry)) (now (lock .exit)) (reading (reader .entry) .bytes) (now (log .entry)) (now (log .exit)) r ⌝ }
 {
-    lock.put_back();
+    make_anew(lock);
     let mut tally = Tally::none();
     for number in 0..reader.calls() {
         // There are as many calls as the header says.

@@ -14,14 +14,14 @@ loop-number-holds g c =
     let k = g .L·Lock in
     let start = reading (c .args .reader) in
     subst
-    (λ (x : Tally). SoFar (k .meaning) (k .takes) (k .made) (c .put-back .last .self) (c .put-back .last .self) start 0 (c .args .log .now) (c .args .log .now) x start)
+    (λ (x : Tally). SoFar (k .meaning) (k .takes) (k .made) (c .make-anew .last .lock) (c .make-anew .last .lock) start 0 (c .args .log .now) (c .args .log .now) x start)
     (sym (c .none-tally .ensures))
-    (none-yet (k .meaning) (k .takes) (k .made) (c .put-back .last .self) start (c .args .log .now) (c .pre .0) (c .pre .1))
+    (none-yet (k .meaning) (k .takes) (k .made) (c .make-anew .last .lock) start (c .args .log .now) (c .pre .0) (c .pre .1))
 
 pub unreachable-requires : need.unreachable-requires
 unreachable-requires g c κs =
     let k = g .L·Lock in
-    not-ended (k .meaning) (k .takes) (k .made) (c .put-back .last .self) (reading (c .args .reader)) (c .args .log .now) (c .pre .0) (c .pre .1)
+    not-ended (k .meaning) (k .takes) (k .made) (c .make-anew .last .lock) (reading (c .args .reader)) (c .args .log .now) (c .pre .0) (c .pre .1)
     (c .loop-number .lock) (c .loop-number .number) (c .loop-number .log) (c .loop-number .tally) (reading (c .loop-number .reader)) (c .loop-number .inv)
     (omega (arith, c .loop-number-test .taken, c .calls-number-end .ensures)) (c .next-call .result) (reading (c .next-call .last .self)) (c .next-call .ensures) (c .in-rest .not-Some)
 
@@ -29,15 +29,15 @@ pub make-call-requires : need.make-call-requires
 make-call-requires g c κs =
     let k = g .L·Lock in
     let left : c .loop-number .number < reading (c .args .reader) .call-count = omega (arith, c .loop-number-test .taken, c .calls-number-end .ensures) in
-    let placed = call-placed (k .meaning) (k .takes) (k .made) (c .put-back .last .self) (reading (c .args .reader)) (c .args .log .now) (c .pre .0) (c .pre .1)
+    let placed = call-placed (k .meaning) (k .takes) (k .made) (c .make-anew .last .lock) (reading (c .args .reader)) (c .args .log .now) (c .pre .0) (c .pre .1)
     (c .loop-number .lock) (c .loop-number .number) (c .loop-number .log) (c .loop-number .tally) (reading (c .loop-number .reader)) (c .loop-number .inv)
     left (c .next-call .result) (reading (c .next-call .last .self)) (c .next-call .ensures) (c .in-Some .call) (c .in-Some .is) in (
-      ready (k .meaning) (k .takes) (k .made) (c .put-back .last .self) (reading (c .args .reader)) (c .args .log .now) (c .pre .0) (c .pre .1)
+      ready (k .meaning) (k .takes) (k .made) (c .make-anew .last .lock) (reading (c .args .reader)) (c .args .log .now) (c .pre .0) (c .pre .1)
           (c .loop-number .lock) (c .loop-number .number) (c .loop-number .log) (c .loop-number .tally) (reading (c .loop-number .reader)) (c .loop-number .inv) left (c .call-asked .result) (omega (arith, placed, ap (λ (x : Call). x .place) (c .call-asked .ensures))),
       omega (
         arith,
         c .loop-number .kept .log,
-        enters-within (k .meaning) (k .takes) (k .made) (c .put-back .last .self) (reading (c .args .reader)) (c .args .log .now) (c .pre .0) (c .pre .1)
+        enters-within (k .meaning) (k .takes) (k .made) (c .make-anew .last .lock) (reading (c .args .reader)) (c .args .log .now) (c .pre .0) (c .pre .1)
             (c .loop-number .lock) (c .loop-number .number) (c .loop-number .log) (c .loop-number .tally) (reading (c .loop-number .reader)) (c .loop-number .inv) left,
       ),
     )
@@ -45,7 +45,7 @@ make-call-requires g c κs =
 pub loop-number-again : need.loop-number-again
 loop-number-again g c =
     let k = g .L·Lock in
-    one-more (k .meaning) (k .takes) (k .made) (c .put-back .last .self) (reading (c .args .reader)) (c .args .log .now) (c .pre .0) (c .pre .1)
+    one-more (k .meaning) (k .takes) (k .made) (c .make-anew .last .lock) (reading (c .args .reader)) (c .args .log .now) (c .pre .0) (c .pre .1)
     (c .loop-number .lock) (c .loop-number .number) (c .loop-number .log) (c .loop-number .tally) (reading (c .loop-number .reader)) (c .loop-number .inv)
     (omega (arith, c .loop-number-test .taken, c .calls-number-end .ensures)) (c .next-call .result) (reading (c .next-call .last .self)) (c .next-call .ensures)
     (c .in-Some .call) (c .in-Some .is) (c .call-asked .result) (c .call-asked .ensures) (c .make-call .last .lock) (c .make-call .result) (c .make-call .last .log) (c .make-call .last .tally)
@@ -54,6 +54,6 @@ loop-number-again g c =
 pub returns : need.returns
 returns g c =
     let k = g .L·Lock in
-    all-made (k .meaning) (k .takes) (k .made) (c .put-back .last .self) (reading (c .args .reader)) (c .args .log .now) (c .pre .0) (c .pre .1)
+    all-made (k .meaning) (k .takes) (k .made) (c .make-anew .last .lock) (reading (c .args .reader)) (c .args .log .now) (c .pre .0) (c .pre .1)
     (c .loop-number .lock) (c .loop-number .number) (c .loop-number .log) (c .loop-number .tally) (reading (c .loop-number .reader)) (c .loop-number .inv)
-    (omega (arith, c .loop-number-test .left, c .calls-number-end .ensures)) (omega (arith, c .loop-number .kept .number-end, c .calls-number-end .ensures)) (c .args .lock .now) (c .put-back .ensures) (promises (g .L·Lock·met .keeps) .economy) (c .calls .result) (c .calls .ensures) (c .summary .result) (c .summary .ensures)
+    (omega (arith, c .loop-number-test .left, c .calls-number-end .ensures)) (omega (arith, c .loop-number .kept .number-end, c .calls-number-end .ensures)) (c .args .lock .now) (c .make-anew .ensures) (promises (g .L·Lock·met .keeps) .economy) (c .calls .result) (c .calls .ensures) (c .summary .result) (c .summary .ensures)
