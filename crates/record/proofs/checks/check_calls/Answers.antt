@@ -1,4 +1,4 @@
--- A call that passed leaves the outcome to the rest.
+-- A call that passed leaves the outcome to the rest. Assumes nothing.
 use Prim.Native.Nat.{_≤_}
 use mathlib.Core.Path.{_∙_, sym}
 use borrow.Author.Tests.{ltb-false}

@@ -1,4 +1,4 @@
--- What is left of the calls gives the outcome, and is counted as it lies.
+-- What is left of the calls gives the outcome, and is counted as it lies. Assumes nothing.
 use Prim.Native.Nat.{_+_}
 use mathlib.Core.Path.{_≡_}
 use lib.ListN.{length}

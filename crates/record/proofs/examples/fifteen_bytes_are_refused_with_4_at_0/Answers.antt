@@ -1,4 +1,4 @@
--- The first test of all is that of the length.
+-- The first test of all is that of the length. Assumes nothing.
 use mathlib.Core.Path.{_≡_, refl, _∙_}
 use Prim.Native.Nat.{_<_}
 use lib.ListN.{length}

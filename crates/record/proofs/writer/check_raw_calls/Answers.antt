@@ -1,4 +1,4 @@
--- The first call that is left decides, or leaves the outcome to those behind it.
+-- The first call that is left decides, or leaves the outcome to those behind it. Assumes nothing.
 use mathlib.Core.Path.{refl, sym, _∙_}
 use native.Mathlib.Omega.{arith}
 use Rattle.std.proofs.shelf.Lists.{drop-more, drop-all}

@@ -1,4 +1,4 @@
--- What is left of the calls gives the outcome, and is counted as it would lie.
+-- What is left of the calls gives the outcome, and is counted as it would lie. Assumes nothing.
 use Prim.Native.Nat.{_+_, _*_}
 use mathlib.Core.Path.{_≡_}
 use lib.ListN.{drop}

@@ -1,4 +1,4 @@
--- A copy into a part of the buffer leaves the others.
+-- A copy into a part of the buffer leaves the others. Assumes nothing.
 use mathlib.Core.Path.{_≡_, refl}
 use Prim.Native.Nat.{_+_, _-_}
 use lib.ListN.{length}

@@ -1,4 +1,4 @@
--- Each call goes behind those before it.
+-- Each call goes behind those before it. Assumes nothing.
 use mathlib.Core.Path.{refl, _∙_}
 use lib.ListN.{getD}
 use native.Mathlib.Omega.{arith}

@@ -1,4 +1,4 @@
--- The calls so far are written.
+-- The calls so far are written. Assumes nothing.
 use Prim.Native.Nat.{_+_, _*_}
 use mathlib.Core.Path.{_≡_}
 use lib.ListN.{take}

@@ -1,4 +1,4 @@
--- Once every test passed, the header and the calls are put one behind the other.
+-- Once every test passed, the header and the calls are put one behind the other. Assumes nothing.
 use mathlib.Core.Path.{_≡_, refl, sym, ap, _∙_}
 use lib.ListN.{length}
 use Rattle.std.proofs.shelf.Tests.{le-ltb}

@@ -1,4 +1,4 @@
--- The bytes behind the cursor are the two of the next call and the rest, or fewer than two.
+-- The bytes behind the cursor are the two of the next call and the rest, or fewer than two. Assumes nothing.
 use mathlib.Core.Path.{_∙_}
 use lib.ListN.{length, length-drop}
 use Prim.Native.Nat.{_≤_, _<_}

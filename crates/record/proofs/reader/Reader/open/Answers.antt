@@ -1,4 +1,4 @@
--- The first test that fails is the outcome, and a record that passes all of them is sound.
+-- The first test that fails is the outcome, and a record that passes all of them is sound. Assumes nothing.
 use mathlib.Core.Path.{refl, sym, _∙_}
 use lib.ListN.{drop}
 use native.Mathlib.Omega.{arith}
