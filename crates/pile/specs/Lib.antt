@@ -1,4 +1,5 @@
 pub mod Finding
-pub mod PileMeaning
-pub mod PileCalls
+pub mod Forms
 pub mod Joined
+pub mod PileCalls
+pub mod PileMeaning

@@ -15,7 +15,6 @@ use Rattle.lock.specs.declared.Reply.{Reply}
 use Rattle.lock.specs.declared.Reply.the-variants.{Taken, Answered, Refused}
 use Rattle.lock.specs.Calls.{bid-by, step-by, leave-by, refusal}
 use Rattle.lock.specs.Meaning.{Meaning}
-use Rattle.lock.specs.Pasts.{Promises}
 use Rattle.pile.specs.declared.Side.{Side}
 use Rattle.pile.specs.declared.Side.the-variants.{Left, Right}
 use Rattle.pile.specs.declared.Pile.{Pile}
@@ -105,26 +104,3 @@ module _ {T L R : Type 0} (top-takes : T → Call → Reply → T → Type 0) (l
   -- each part is found, and does, by what the parts mean before the call
   abbrev pub PileTakes : (Pile T L R → Meanings) → Pile T L R → Call → Reply → Pile T L R → Type 0
   PileTakes means s c r s′ = CallOf (means s) (found (means s) (c .place)) (c .kind) s r s′
-
--- a lock as the promises over pasts see it
-pub record Form (L : Type 0) : Type 1 where
-  pub meaning : L → Meaning
-  pub takes : L → Call → Reply → L → Type 0
-  pub made : L → L
-
-abbrev pub form : {L : Type 0} → (L → Meaning) → (L → Call → Reply → L → Type 0) → (L → L) → Form L
-form meaning takes made = record { meaning = meaning; takes = takes; made = made }
-
--- a pile of three locks
-abbrev pub piled : {T L R : Type 0} → Form T → Form L → Form R → Form (Pile T L R)
-piled top left right =
-    form (pile-means (top .meaning) (left .meaning) (right .meaning))
-    (PileTakes (top .takes) (left .takes) (right .takes) (meanings (top .meaning) (left .meaning) (right .meaning)))
-    (pile-made (top .made) (left .made) (right .made))
-
--- a pile whose left part is a pile
-abbrev pub nested : {T U F S L : Type 0} → Form T → Form U → Form F → Form S → Form L → Form (Pile T (Pile U F S) L)
-nested top upper first second last = piled top (piled upper first second) last
-
-abbrev pub PromisesOf : {L : Type 0} → Form L → Type 0
-PromisesOf f = Promises (f .meaning) (f .takes) (f .made)

@@ -45,7 +45,7 @@ holder-by (Some zero) m = m .left .holder
 holder-by (Some (suc zero)) m = shifted (m .left .places) (room Right m) (m .right .holder)
 holder-by (Some (suc (suc k))) m = None
 
--- what a side may still spend once its box at the top is in: M of the side, less what it has now
+-- what is set aside for a side besides its own credit: M of the side, and nothing while its box bids at the top
 abbrev pub reserve : Phase → ℕ → ℕ
 reserve Out limit = limit
 reserve Bidding limit = 0

@@ -5,7 +5,8 @@ ghost use Rattle.lock.specs.Calls.{bid-by, step-by, leave-by, taken-or, answere
 ghost use Rattle.lock.specs.Meaning.{phase-answer};
 ghost use Rattle.pile.specs.declared.Side.{Side as SideOf};
 ghost use Rattle.pile.specs.Finding.{side-of, top-place, found};
-ghost use Rattle.pile.specs.PileCalls.{meanings, pile-means, pile-made, SideTakes, AfterSide, AfterTop, PileTakes, form, nested, PromisesOf};
+ghost use Rattle.pile.specs.PileCalls.{meanings, pile-means, pile-made, SideTakes, AfterSide, AfterTop, PileTakes};
+ghost use Rattle.pile.specs.Forms.{form, nested, PromisesOf};
 ghost use Rattle.pile.specs.Joined.{PileSound};
 use lock::Answer;
 use lock::BID_LIMIT;

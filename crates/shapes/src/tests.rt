@@ -17,18 +17,6 @@ use std::test::*;
 // More steps than a lone box of these locks makes before it enters or is out.
 const ENOUGH: usize = 8;
 
-type Sixteen = Pile<Peterson, PileFour, PileFour>;
-
-type ThirtyTwo = Pile<Peterson, Sixteen, Sixteen>;
-
-fn sixteen() -> Sixteen {
-    Pile::new(Peterson::new(), pile_four(), pile_four())
-}
-
-fn thirty_two() -> ThirtyTwo {
-    Pile::new(Peterson::new(), sixteen(), sixteen())
-}
-
 // Steps box 0 until the answer is an entry or out.
 fn step_on<L: Lock>(lock: &mut L) -> Result<(), Refusal> {
     for _ in 0..ENOUGH {
@@ -76,18 +64,30 @@ fn has_64_places<L: Lock>(lock: &mut L) -> Result<(), Fail> {
     }
 }
 
+// A quarter of the 64 places.
+fn sixteen() -> Pile<Peterson, PileFour, PileFour> {
+    Pile::new(Peterson::new(), pile_four(), pile_four())
+}
+
+fn over<L: Lock, R: Lock>(left: L, right: R) -> Pile<Peterson, L, R> {
+    Pile::new(Peterson::new(), left, right)
+}
+
+// The piles are made of parts of any kind, so that each is proved for itself.
+fn quarters_make_64<L: Lock + Drop>(a: L, b: L, c: L, d: L) -> Result<(), Fail> {
+    has_64_places(&mut over(over(a, b), over(c, d)))
+}
+
+fn one_more_is_cut<L: Lock + Drop>(a: L, b: L, c: L, d: L) -> Result<(), Fail> {
+    has_64_places(&mut over(over(a, b), over(over(c, d), Bye::new())))
+}
+
 #[test]
 fn nested_piles_have_64_places() -> Result<(), Fail> {
-    has_64_places(&mut Pile::new(Peterson::new(), thirty_two(), thirty_two()))
+    quarters_make_64(sixteen(), sixteen(), sixteen(), sixteen())
 }
 
 #[test]
 fn the_65th_place_is_cut() -> Result<(), Fail> {
-    let right: Pile<Peterson, ThirtyTwo, Bye> = Pile::new(
-        Peterson::new(),
-        thirty_two(),
-        Bye::new(),
-    );
-    check_eq(right.places(), 33)?;
-    has_64_places(&mut Pile::new(Peterson::new(), thirty_two(), right))
+    one_more_is_cut(sixteen(), sixteen(), sixteen(), sixteen())
 }
