@@ -15,7 +15,7 @@ use Rattle.lock.specs.declared.Reply.{Reply}
 use Rattle.lock.specs.Meaning.{Meaning}
 use Rattle.lock.specs.Pasts.{Event, Past}
 use Rattle.leaf.specs.PetersonLines.{peterson-made}
-use Rattle.pile.specs.PileCalls.{Form}
+use Rattle.pile.specs.Forms.{Form}
 use Rattle.shapes.specs.Shapes.{peterson-form, eight-form, eight-made, three-form, three-made}
 use Rattle.replay.specs.declared.faults.ReplayFault.{ReplayFault}
 use Rattle.replay.specs.Replays.{replay-test, calls-made, record-calls}

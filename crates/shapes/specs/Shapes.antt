@@ -5,7 +5,8 @@ use Rattle.leaf.specs.declared.peterson.Peterson.{Peterson}
 use Rattle.leaf.specs.ByeLines.{bye-meaning, ByeTakes, bye-made}
 use Rattle.leaf.specs.PetersonLines.{peterson-meaning, PetersonTakes, peterson-made}
 use Rattle.pile.specs.declared.Pile.{Pile}
-use Rattle.pile.specs.PileCalls.{Form, form, piled, pile-means}
+use Rattle.pile.specs.Forms.{Form, form, piled}
+use Rattle.pile.specs.PileCalls.{pile-means}
 
 -- Peterson's lock over two of its kind: four boxes
 abbrev pub Four : Type 0
