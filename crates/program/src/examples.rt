@@ -8,46 +8,8 @@ use replay::ReplayFault;
 use replay::Summary;
 use replay::replay;
 
-const WHOLE_RUN: [u8; 38] = [
-    2,
-    0,
-    0,
-    0,
-    11,
-    0,
-    0,
-    0,
-    16,
-    0,
-    0,
-    0,
-    38,
-    0,
-    0,
-    0,
-    1,
-    0,
-    1,
-    1,
-    2,
-    0,
-    2,
-    1,
-    2,
-    0,
-    2,
-    1,
-    2,
-    1,
-    2,
-    0,
-    3,
-    0,
-    2,
-    0,
-    2,
-    1,
-];
+const WHOLE_RUN: &[u8; 38] =
+    b"\x02\x00\x00\x00\x0b\x00\x00\x00\x10\x00\x00\x00\x26\x00\x00\x00\x01\x00\x01\x01\x02\x00\x02\x01\x02\x00\x02\x01\x02\x01\x02\x00\x03\x00\x02\x00\x02\x01";
 
 /// Replays two boxes on a new Peterson lock, of which box 0 enters with call 7, box 1 with call 10.
 pub fn whole_run_logs_entries_7_0_and_10_1() -> (Result<Summary, ReplayFault>, [Entry; 11])
@@ -56,6 +18,6 @@ pub fn whole_run_logs_entries_7_0_and_10_1() -> (Result<Summary, ReplayFault>, [
 {
     let mut lock = Peterson::new();
     let mut log = [Entry { call: 0, place: 0 }; 11];
-    let summary = replay(&mut lock, &WHOLE_RUN, &mut log);
+    let summary = replay(&mut lock, WHOLE_RUN, &mut log);
     (summary, log)
 }
