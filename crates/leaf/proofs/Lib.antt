@@ -1,6 +1,6 @@
 mod BoardKeeps
 mod ByeCorrect
 mod FirstHolding
-mod Follows
+pub mod LeafRuns
 mod Obligations
 mod PetersonCorrect

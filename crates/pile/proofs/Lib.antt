@@ -7,3 +7,4 @@ mod PileOutcomes
 mod Places
 mod Registers
 mod Steps
+pub mod PileRuns

@@ -1,4 +1,4 @@
-mod Determined
 mod Handing
 mod Joining
+mod TurnedRound
 mod TwoBoxes

@@ -1,2 +1,0 @@
-mod LeafRuns
-mod Runs

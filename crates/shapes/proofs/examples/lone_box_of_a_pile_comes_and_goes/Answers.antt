@@ -10,8 +10,9 @@ use Rattle.leaf.specs.PetersonLines.{peterson-meaning, PetersonTakes, peterson-
 use Rattle.pile.specs.declared.Pile.{Pile}
 use Rattle.pile.specs.Finding.{Meanings}
 use Rattle.pile.specs.PileCalls.{meanings, PileTakes}
-use Rattle.shapes.proofs.LeafRuns.{bye-run, bye-runs, peterson-run, peterson-runs}
-use Rattle.shapes.proofs.Runs.{Ran, Runs, pile-run, pile-runs, follows}
+use Rattle.lock.proofs.Runs.{Ran, Runs, follows}
+use Rattle.leaf.proofs.LeafRuns.{bye-run, bye-runs, peterson-run, peterson-runs}
+use Rattle.pile.proofs.PileRuns.{pile-run, pile-runs}
 use Rattle.shapes.proofs.examples.lone_box_of_a_pile_comes_and_goes.Needs as need
 
 abbrev Three : Type 0

@@ -14,21 +14,13 @@ use Rattle.lock.specs.declared.Refusal.the-variants.{NoPlace, WrongPhase}
 use Rattle.lock.specs.declared.Reply.{Reply}
 use Rattle.lock.specs.declared.Reply.the-variants.{Taken, Answered, Refused}
 use Rattle.lock.specs.Calls.{bid-by, step-by, leave-by, refusal}
 use Rattle.pile.specs.declared.Side.{Side}
 use Rattle.pile.specs.declared.Side.the-variants.{Left, Right}
 use Rattle.pile.specs.declared.Pile.{Pile}
 use Rattle.pile.specs.Finding.{Meanings, side-of, top-place, found}
 use Rattle.pile.specs.PileMeaning.{pile-bids}
 use Rattle.pile.specs.PileCalls.{TopTakes, SideTakes, BidAt, AfterSide, AfterTop, StepAt, LeaveAt, CallAt, CallOf, PileTakes}
-
--- what a call returns and leaves
-pub record Ran (S : Type 0) : Type 0 where
-  pub reply : Reply
-  pub after : S
-
--- each call has the outcome that `run` computes
-abbrev pub Runs : {S : Type 0} → (S → Call → Reply → S → Type 0) → (S → Call → Ran S) → Type 0
-Runs {S} takes run = (s t : S) (c : Call) (r : Reply) → takes s c r t → record { reply = r; after = t } ≡ run s c
+use Rattle.lock.proofs.Runs.{Ran, Runs}
 
 module _ {T L R : Type 0} (top-run : T → Call → Ran T) (left-run : L → Call → Ran L) (right-run : R → Call → Ran R) where
   abbrev on-top : Pile T L R → Call → Ran (Pile T L R)
@@ -153,9 +145,3 @@ module _ {T L R : Type 0} (top-run : T → Call → Ran T) (left-run : L → Cal
 
     pub pile-runs : (means : Pile T L R → Meanings) → Runs (PileTakes top-takes left-takes right-takes means) (pile-run means)
     pile-runs means s t c r taken = found-ran s t r (means s) (c .kind) (found (means s) (c .place)) taken
-
--- a call on a lock that is known gives a reply and a lock that are known
-pub follows : {S : Type 0} {takes : S → Call → Reply → S → Type 0} {run : S → Call → Ran S} → Runs takes run → (known s t : S) (c : Call) (r : Reply) → s ≡ known → takes s c r t → (r ≡ run known c .reply) × (t ≡ run known c .after)
-follows {S} {run} runs known s t c r same taken =
-    let ran = runs s t c r taken ∙ ap (λ (x : S). run x c) same in
-    (ap (λ (x : Ran S). x .reply) ran, ap (λ (x : Ran S). x .after) ran)

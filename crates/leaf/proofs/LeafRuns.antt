@@ -4,13 +4,13 @@ use lib.ListN.{getD}
 use Rattle.lock.specs.declared.Phase.{Phase}
 use Rattle.lock.specs.declared.Phase.the-variants.{Out}
 use Rattle.lock.specs.declared.Call.{Call}
 use Rattle.leaf.specs.declared.bye.Bye.{Bye}
 use Rattle.leaf.specs.declared.peterson.BoxRecord.{BoxRecord}
 use Rattle.leaf.specs.declared.peterson.Peterson.{Peterson}
 use Rattle.leaf.specs.Boards.{Outcome, outcome}
 use Rattle.leaf.specs.ByeLines.{bye, bye-board, ByeTakes}
 use Rattle.leaf.specs.PetersonLines.{peterson, peterson-board, PetersonTakes}
-use Rattle.shapes.proofs.Runs.{Ran, Runs}
+use Rattle.lock.proofs.Runs.{Ran, Runs}
 
 abbrev bye-ran : Outcome Phase → Ran Bye
 bye-ran o = record { reply = o .reply; after = record { phase = getD (o .board .boxes) 0 Out; bids = o .board .bids } }
