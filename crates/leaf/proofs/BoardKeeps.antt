@@ -7,29 +7,26 @@ use lib.Dec.{eqb, ltb}
 use lib.ListN.{length, getD, set, take, replicate, length-set, length-replicate}
 use Prim.Native.Nat.{ℕ, zero, suc, _+_, _<_, _≤_}
 use native.Mathlib.Omega.{arith}
-use borrow.Author.Needs.{needs}
-use Rattle.std.proofs.shelf.Tests.{lt-ltb, le-ltb, ltb-true, ltb-false, leb-false, cases-bool, cases-lt, cases-eq, eq-eqb, ne-eqb, true≢false}
+use Rattle.std.proofs.shelf.Tests.{lt-ltb, le-ltb, leb-false, cases-lt, cases-eq, eq-eqb, ne-eqb}
 use Rattle.std.proofs.shelf.Lists.{getD-set-same, getD-set-other, length-take, getD-take}
 use Rattle.std.proofs.shelf.Maps.{nth-getD, nth-past}
 use Rattle.std.specs.Finite.{nth}
 use Rattle.std.specs.declared.option.Option.{Option}
 use Rattle.std.specs.declared.option.Option.the-variants.{Some, None}
 use Rattle.lock.specs.declared.Phase.{Phase}
-use Rattle.lock.specs.declared.Phase.the-variants.{Out, Bidding, Holding, Leaving}
+use Rattle.lock.specs.declared.Phase.the-variants.{Out, Holding}
 use Rattle.lock.specs.declared.Answer.{Answer}
 use Rattle.lock.specs.declared.Answer.the-variants.{Waits, Moves, Enters, Out as Gone}
 use Rattle.lock.specs.declared.Kind.{Kind}
 use Rattle.lock.specs.declared.Kind.the-variants.{Bid, Step, Leave}
 use Rattle.lock.specs.declared.Call.{Call}
 use Rattle.lock.specs.declared.Refusal.{Refusal}
-use Rattle.lock.specs.declared.Reply.{Reply}
-use Rattle.lock.specs.declared.Reply.the-variants.{Taken, Answered, Refused}
-use Rattle.lock.specs.Calls.{one-too-many}
+use Rattle.lock.specs.declared.Reply.the-variants.{Taken, Refused}
 use Rattle.lock.specs.Meaning.{Meaning, Mark, shut, open-after, Active, WellFormed, SameSize, Turns, SamePhases, MarkWaited, Stepped, Accepted, Changes, Fresh, Keeps, refusal-of}
-use Rattle.leaf.specs.Boards.{Board, Action, Algorithm, Outcome, written, total, first-holding, mark-by, mark-within, action, box-at, phase-at, meaning-of, accepted, outcome-by, outcome, Tidy, Blank}
+use Rattle.leaf.specs.Boards.{Board, Algorithm, Outcome, written, mark-by, mark-within, action, box-at, phase-at, meaning-of, accepted, outcome-by, outcome, Tidy, Blank}
 use Rattle.lock.proofs.Totals.{total-changed}
 use Rattle.lock.proofs.Admitted.{Admitted, admitted, out-fits, holding-fits, active-fits}
-use Rattle.leaf.proofs.Obligations.{stored, register, Within, Change, Fitting, Correct, acting}
+use Rattle.leaf.proofs.Obligations.{stored, Within, Change, Fitting, Correct, acting}
 use Rattle.leaf.proofs.FirstHolding.{first-holds, holds-first}
 
 stored-set : (rs : List ℕ) (k j v : ℕ) → j < length rs → getD (set rs j v) k 0 ≡ cond (eqb k j) v (getD rs k 0)

@@ -1,26 +1,24 @@
 -- Peterson's lines meet the obligations of a lock. Assumes nothing.
-use mathlib.Core.Path.{_≡_, refl, sym, ap, subst, _∙_}
-use mathlib.Core.Bool.{Bool, true, false, cond}
+use mathlib.Core.Path.{_≡_, refl, sym, ap, _∙_}
+use mathlib.Core.Bool.{true, false}
 use mathlib.Core.List.{List}
 use mathlib.Core.Logic.{_⊎_, inl, inr, ⊎-elim}
 use lib.Dec.{eqb}
 use lib.ListN.{getD}
 use Prim.Native.Nat.{ℕ, zero, suc, _+_, _-_, _<_, _≤_}
 use native.Mathlib.Omega.{arith}
-use borrow.Author.Needs.{needs}
-use Rattle.std.proofs.shelf.Tests.{eqb-true, eqb-false, eq-eqb, ne-eqb, cases-bool, cases-eq, true≢false}
+use Rattle.std.proofs.shelf.Tests.{cases-bool, cases-eq, true≢false}
 use Rattle.std.proofs.shelf.Ways.{tells}
 use Rattle.std.specs.declared.option.Option.{Option}
-use Rattle.std.specs.declared.option.Option.the-variants.{Some, None}
-use Rattle.lock.specs.declared.Phase.{Phase}
-use Rattle.lock.specs.declared.Phase.the-variants.{Out as IsOut, Bidding as IsBidding, Holding as IsHolding, Leaving as IsLeaving}
-use Rattle.lock.specs.declared.Answer.the-variants.{Waits, Moves, Enters, Out as Gone}
+use Rattle.std.specs.declared.option.Option.the-variants.{None}
+use Rattle.lock.specs.declared.Phase.the-variants.{Out as IsOut, Holding as IsHolding}
+use Rattle.lock.specs.declared.Answer.the-variants.{Waits}
 use Rattle.lock.specs.Meaning.{shut, open-after, Active}
 use Rattle.leaf.specs.declared.peterson.Line.{Line}
 use Rattle.leaf.specs.declared.peterson.Line.the-variants.{Out, One, Two, Three, Four, Holding, Leaving}
 use Rattle.leaf.specs.declared.peterson.BoxRecord.{BoxRecord}
-use Rattle.leaf.specs.Boards.{Board, Action, total, value, mark-within, box-at, Blank}
-use Rattle.leaf.specs.PetersonLines.{line-phase, at, reads, acts, left, peterson, flag, contends, inside, line-of, register-of, Rivals, Invariant}
+use Rattle.leaf.specs.Boards.{Board, Action, value, mark-within, box-at, Blank}
+use Rattle.leaf.specs.PetersonLines.{line-phase, at, reads, acts, left, peterson, flag, contends, line-of, register-of, Rivals, Invariant}
 use Rattle.leaf.proofs.Obligations.{stored, Within, Change, Fitting, Correct, acting}
 
 abbrev cell : List ℕ → ℕ → ℕ

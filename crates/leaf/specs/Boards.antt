@@ -1,8 +1,8 @@
 -- The common form of the locks that are made of registers: what a call does, and what it means.
 -- Assumes nothing.
 use mathlib.Core.Path.{_≡_}
-use mathlib.Core.List.{List, []}
-use mathlib.Core.Bool.{Bool, true, false, cond}
+use mathlib.Core.List.{List}
+use mathlib.Core.Bool.{cond}
 use lib.Dec.{ltb}
 use lib.ListN.{length, getD, set, take}
 use Prim.Native.Nat.{ℕ, zero, suc, _+_, _≤_}

@@ -3,8 +3,8 @@ use mathlib.Core.Path.{_≡_, sym, ap, subst, refl, _∙_}
 use mathlib.Core.Bool.{Bool, true, false, cond, _||_}
 use mathlib.Core.List.{List, [], _∷_}
 use mathlib.Core.Logic.{⊎-elim}
-use lib.Dec.{eqb, ltb}
-use Prim.Native.Nat.{ℕ, _+_, _<_, _≤_, pred}
+use lib.Dec.{eqb}
+use Prim.Native.Nat.{ℕ, _+_, _≤_, pred}
 use native.Mathlib.Omega.{arith}
 use Rattle.std.proofs.shelf.Tests.{eq-eqb, ne-eqb, cases-eq, cond-both, true≢false, cases-bool}
 use Rattle.std.specs.shelf.Lists.{All}
@@ -19,8 +19,8 @@ use Rattle.lock.specs.declared.Kind.the-variants.{Bid, Step, Leave}
 use Rattle.lock.specs.declared.Call.{Call}
 use Rattle.lock.specs.declared.Refusal.{Refusal}
 use Rattle.lock.specs.declared.Reply.{Reply}
-use Rattle.lock.specs.declared.Reply.the-variants.{Taken, Answered, Refused}
-use Rattle.lock.specs.Meaning.{Meaning, Keeps, Changes, Accepted, Stepped, Waited, Turns, SamePhases, SameSize, Active, MarkWaited, shut, open-after, refusal-of, phase-answer}
+use Rattle.lock.specs.declared.Reply.the-variants.{Answered, Refused}
+use Rattle.lock.specs.Meaning.{Meaning, Keeps, Changes, Accepted, Stepped, Waited, Turns, SamePhases, SameSize, Active, MarkWaited, open-after, refusal-of}
 use Rattle.lock.specs.Pasts.{Event, is-wait, is-entry, is-refusal, phase-after, phase-from, waits, work-of, work, onto-first, stretches, Run, Past, Fixed, PhasesDerive, HolderDerives, OneHolder, Progress, Economy, Promises}
 
 -- the phase of place p after a call for place q

@@ -1,5 +1,5 @@
 -- Where each call on a lock has one outcome, what calls return and leave can be computed. Assumes nothing.
-use mathlib.Core.Path.{_≡_, refl, sym, ap, _∙_}
+use mathlib.Core.Path.{_≡_, refl, ap, _∙_}
 use mathlib.Core.List.{List, [], _∷_, map}
 use Rattle.lock.specs.declared.Call.{Call}
 use Rattle.lock.specs.declared.Reply.{Reply}

@@ -1,7 +1,7 @@
 -- What a lock means, and how a call may change that. Assumes nothing.
 use mathlib.Core.Path.{_≡_}
 use mathlib.Core.List.{List}
-use mathlib.Core.Bool.{Bool, cond}
+use mathlib.Core.Bool.{cond}
 use lib.Dec.{ltb}
 use lib.ListN.{length}
 use Prim.Native.Nat.{ℕ, pred, _+_, _<_, _≤_}

@@ -5,11 +5,9 @@ use mathlib.Core.Bool.{Bool, true, false, cond, _||_}
 use lib.Dec.{eqb, ltb}
 use Prim.Native.Nat.{ℕ, _+_, _<_, _≤_}
 use Rattle.std.specs.shelf.Lists.{All}
-use Rattle.std.specs.declared.option.Option.{Option}
 use Rattle.std.specs.declared.option.Option.the-variants.{Some, None}
 use Rattle.lock.specs.declared.Phase.{Phase}
 use Rattle.lock.specs.declared.Phase.the-variants.{Out, Bidding, Holding, Leaving}
-use Rattle.lock.specs.declared.Answer.{Answer}
 use Rattle.lock.specs.declared.Answer.the-variants.{Waits, Moves, Enters, Out as Gone}
 use Rattle.lock.specs.declared.Kind.{Kind}
 use Rattle.lock.specs.declared.Kind.the-variants.{Bid, Step, Leave}

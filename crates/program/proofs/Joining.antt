@@ -1,6 +1,6 @@
 -- Text that grows by one piece for each element of a list. Assumes nothing.
 use mathlib.Core.Path.{_≡_, sym, ap, _∙_}
-use mathlib.Core.List.{List, [], _∷_, _++_}
+use mathlib.Core.List.{List, _++_}
 use lib.ListN.{length, getD, take}
 use Prim.Native.Nat.{ℕ, _+_, _<_, _≤_}
 use Rattle.std.proofs.shelf.Lists.{take-all, take-more, joined-more}

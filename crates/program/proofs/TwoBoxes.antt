@@ -1,12 +1,11 @@
 -- The replay of the two boxes' run, computed. Assumes nothing.
-use mathlib.Core.Path.{_≡_, refl, ap, _∙_}
-use mathlib.Core.List.{List, [], _∷_, map, reverse}
+use mathlib.Core.Path.{_≡_, ap, _∙_}
+use mathlib.Core.List.{List, [], _∷_, reverse}
 use lib.ListN.{replicate}
 use Prim.Native.Nat.{ℕ}
 use native.Mathlib.Omega.{arith}
 use Rattle.std.specs.declared.result.Result.{Result}
 use Rattle.std.specs.declared.result.Result.the-variants.{Ok, Err}
-use Rattle.lock.specs.declared.Call.{Call}
 use Rattle.lock.specs.Pasts.{Event}
 use Rattle.leaf.specs.declared.peterson.Peterson.{Peterson}
 use Rattle.lock.proofs.Runs.{events-by, determined}

@@ -8,7 +8,6 @@ use Prim.Native.Nat.{ℕ}
 use Rattle.std.specs.Of.String.{string-bytes}
 use Rattle.std.specs.declared.option.Option.{Option}
 use Rattle.std.specs.declared.option.Option.the-variants.{Some, None}
-use Rattle.std.specs.declared.result.Result.{Result}
 use Rattle.std.specs.declared.result.Result.the-variants.{Ok, Err}
 use Rattle.lock.specs.declared.Call.{Call}
 use Rattle.lock.specs.declared.Reply.{Reply}
@@ -20,7 +19,6 @@ use Rattle.shapes.specs.Shapes.{peterson-form, eight-form, eight-made, three-fo
 use Rattle.replay.specs.declared.faults.ReplayFault.{ReplayFault}
 use Rattle.replay.specs.Replays.{replay-test, calls-made, record-calls}
 use Rattle.replay.specs.Reports.{entries, summary-of}
-use Rattle.program.specs.declared.faults.ProgramFault.{ProgramFault}
 use Rattle.program.specs.declared.faults.ProgramFault.the-variants.{OfReplay, NoPile}
 use Rattle.program.specs.declared.runs.Outcome.{Outcome}
 use Rattle.program.specs.declared.runs.Outcome.the-variants.{Report, Refused}

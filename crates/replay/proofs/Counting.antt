@@ -8,7 +8,7 @@ use native.Mathlib.Nat.{add-comm}
 use native.Mathlib.Omega.{arith}
 use Rattle.lock.specs.Pasts.{Event, is-wait, is-entry, is-refusal}
 use Rattle.replay.specs.Reports.{is-bid-taken, is-leave-taken, is-move, is-out, count, counts-of}
-use Rattle.replay.specs.Running.{one-if, counted, Room}
+use Rattle.replay.specs.Running.{one-if, counted}
 
 pub counts-more : (e : Event) (es : List Event) → counted (counts-of es) (e .call .kind) (e .reply) ≡ counts-of (e ∷ es)
 counts-more e es = λ i. record {

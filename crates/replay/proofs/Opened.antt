@@ -1,8 +1,8 @@
 -- What opening a record says of its tests, and so of the tests of a replay. Assumes nothing.
 use mathlib.Core.Path.{_≡_, refl, sym, ap, subst, _∙_}
-use mathlib.Core.Bool.{true, false}
+use mathlib.Core.Bool.{true}
 use mathlib.Core.List.{List}
-use lib.Dec.{eqb, ltb}
+use lib.Dec.{eqb}
 use Prim.Native.Nat.{ℕ, _<_, _≤_}
 use native.Mathlib.Omega.{arith}
 use Rattle.std.proofs.shelf.Tests.{eq-eqb, ne-eqb, lt-ltb, le-ltb}
@@ -14,7 +14,6 @@ use Rattle.record.specs.Checks.{_then_, reading-test}
 use Rattle.record.specs.Layout.{places-in, call-count-in}
 use Rattle.record.specs.Readers.{Reading, reading, opened, opening}
 use Rattle.record.specs.RoundTrip.{Sound}
-use Rattle.replay.specs.declared.faults.ReplayFault.{ReplayFault}
 use Rattle.replay.specs.declared.faults.ReplayFault.the-variants.{OfRecord, OtherPlaces, ShortLog}
 use Rattle.replay.specs.Replays.{AtStart, replay-test}
 

@@ -1,9 +1,8 @@
 -- What holds while the calls of a record are made: a past, and all that is kept of it. Assumes nothing.
 use mathlib.Core.Path.{_≡_, refl, sym, ap, subst, _∙_}
-use mathlib.Core.Bool.{Bool, true, false, cond}
+use mathlib.Core.Bool.{Bool}
 use mathlib.Core.List.{List, [], _∷_, _++_, map}
-use lib.Dec.{ltb}
-use lib.ListN.{length, getD, take, length-append}
+use lib.ListN.{length, getD, take}
 use Prim.Native.Nat.{ℕ, zero, suc, _+_, _*_, _≤_, _<_}
 use native.Mathlib.Numerals.{add-one}
 use native.Mathlib.Omega.{arith}
@@ -13,16 +12,15 @@ use Rattle.std.proofs.shelf.Tests.{le-ltb}
 use Rattle.std.specs.Finite.{nth}
 use Rattle.std.specs.shelf.Lists.{All}
 use Rattle.std.specs.declared.option.Option.{Option}
-use Rattle.std.specs.declared.option.Option.the-variants.{Some, None}
+use Rattle.std.specs.declared.option.Option.the-variants.{Some}
 use Rattle.lock.specs.declared.Call.{Call}
 use Rattle.lock.specs.declared.Reply.{Reply}
 use Rattle.lock.specs.Meaning.{Meaning}
 use Rattle.lock.specs.Pasts.{Event, Run, Past, Economy, is-entry, work, stretches}
 use Rattle.record.specs.declared.call.BusCall.{BusCall}
 use Rattle.record.specs.declared.call.BusKind.the-variants.{Bid}
-use Rattle.record.specs.Layout.{calls-in, call-count-in, places-in}
+use Rattle.record.specs.Layout.{calls-in, places-in}
 use Rattle.record.specs.Readers.{Reading, NextCall, at-byte, moved}
-use Rattle.record.specs.RoundTrip.{Sound}
 use Rattle.replay.specs.declared.report.Entry.{Entry}
 use Rattle.replay.specs.declared.report.Summary.{Summary}
 use Rattle.replay.specs.declared.running.Tally.{Tally}

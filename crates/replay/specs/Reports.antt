@@ -1,14 +1,12 @@
 -- What a replay reports of a past: the log, the counts, gap and passed. Assumes nothing.
-use mathlib.Core.Bool.{Bool, true, false, cond, _&&_}
+use mathlib.Core.Bool.{Bool, true, false, cond}
 use mathlib.Core.List.{List, [], _∷_, _++_, reverse}
 use lib.Dec.{eqb}
 use lib.ListN.{length, drop}
 use Prim.Native.Nat.{ℕ, _+_, max}
-use Rattle.lock.specs.declared.Answer.{Answer}
 use Rattle.lock.specs.declared.Answer.the-variants.{Waits, Moves, Enters, Out as Gone}
 use Rattle.lock.specs.declared.Kind.{Kind}
 use Rattle.lock.specs.declared.Kind.the-variants.{Bid, Step, Leave}
-use Rattle.lock.specs.declared.Call.{Call}
 use Rattle.lock.specs.declared.Reply.{Reply}
 use Rattle.lock.specs.declared.Reply.the-variants.{Taken, Answered, Refused}
 use Rattle.lock.specs.Pasts.{Event, is-wait, is-entry, is-refusal, work, stretches}

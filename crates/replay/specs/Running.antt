@@ -1,6 +1,6 @@
 -- How a replay keeps its counts, gap and passed from call to call. Assumes nothing.
 use mathlib.Core.Bool.{Bool, cond}
-use mathlib.Core.List.{List, [], _∷_}
+use mathlib.Core.List.{List}
 use lib.ListN.{getD, set, replicate}
 use Prim.Native.Nat.{ℕ, _+_, _-_, _<_, max}
 use Rattle.std.specs.Iters.{folded}

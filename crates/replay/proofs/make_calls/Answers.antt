@@ -1,5 +1,5 @@
 -- The calls made are a past of the lock, and all that is kept from call to call is of that past.
-use mathlib.Core.Path.{_≡_, ap, sym, subst}
+use mathlib.Core.Path.{ap, sym, subst}
 use Prim.Native.Nat.{_<_}
 use native.Mathlib.Omega.{arith}
 use Rattle.lock.proofs.Pasts.{promises}

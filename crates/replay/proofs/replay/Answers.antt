@@ -1,11 +1,10 @@
 -- The first test that fails is the outcome; a record that passes them all is replayed.
-use mathlib.Core.Path.{_≡_, refl, sym, subst, _∙_}
+use mathlib.Core.Path.{refl, sym, subst, _∙_}
 use mathlib.Core.List.{List}
 use Prim.Native.Nat.{ℕ}
 use native.Mathlib.Omega.{arith}
 use Rattle.std.proofs.shelf.Results.{err-from-errBy}
 use Rattle.lock.proofs.Pasts.{promises}
-use Rattle.record.specs.Readers.{reading}
 use Rattle.replay.specs.Replays.{Replayed}
 use Rattle.replay.proofs.Opened.{refused-by-record, bytes-same, at-start, other-places, short-log, accepted}
 use Rattle.replay.proofs.replay.Needs as need

@@ -1,5 +1,5 @@
 -- Each call's outcome is computed from the last one's, from the new lock on.
-use mathlib.Core.Path.{_≡_, ap}
+use mathlib.Core.Path.{ap}
 use Rattle.lock.specs.Calls.{bid-by, step-by}
 use Rattle.lock.proofs.Runs.{follows}
 use Rattle.leaf.specs.declared.peterson.Peterson.{Peterson}

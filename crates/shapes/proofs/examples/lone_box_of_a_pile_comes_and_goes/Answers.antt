@@ -1,7 +1,5 @@
 -- Each call's outcome is computed from the last one's, from the new pile on.
-use mathlib.Core.Path.{_≡_, ap, _∙_}
 use Rattle.lock.specs.declared.Call.{Call}
-use Rattle.lock.specs.declared.Reply.{Reply}
 use Rattle.lock.specs.Calls.{bid-by, step-by, leave-by}
 use Rattle.leaf.specs.declared.bye.Bye.{Bye}
 use Rattle.leaf.specs.declared.peterson.Peterson.{Peterson}
