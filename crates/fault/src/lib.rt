@@ -1,3 +1,5 @@
+#![tactic(auto)]
+
 ghost use Rattle.std.specs.Prelude.{◌≡◌, ℕ, Option as Maybe};
 ghost use Rattle.fault.specs.declared.Layer.{Layer as LayerOf};
 ghost use Rattle.fault.specs.Layers.{layer_name};

@@ -1,3 +1,5 @@
+#![tactic(auto)]
+
 mod bye;
 pub mod examples;
 mod peterson;

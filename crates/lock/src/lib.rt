@@ -1,3 +1,5 @@
+#![tactic(auto)]
+
 ghost use Rattle.std.specs.Prelude.{◌≡◌, ℕ, ◌<◌, ◌≤◌, length, Some};
 ghost use Rattle.lock.specs.declared.Call.{Call as Called};
 ghost use Rattle.lock.specs.declared.Reply.{Reply as Replied};

@@ -1,3 +1,5 @@
+#![tactic(auto)]
+
 ghost use Rattle.std.specs.Prelude.{◌≡◌, ℕ, ◌<◌, Some};
 ghost use Rattle.lock.specs.Calls.{bid_by, step_by, leave_by, taken_or, answered_or};
 ghost use Rattle.lock.specs.Meaning.{phase_answer};

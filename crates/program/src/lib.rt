@@ -1,3 +1,5 @@
+#![tactic(auto)]
+
 pub mod examples;
 mod faults;
 mod runs;
