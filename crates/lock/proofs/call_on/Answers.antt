@@ -15,20 +15,20 @@ outcome_of takes c k r q s t e f h =
 pub returns-in-Bid : goal.returns-in-Bid
 returns-in-Bid g c =
     record {
-      outcome = outcome_of g.L.Lock.takes c.args.call _ _ _ _ _ c.in-Bid.is c.of-taken.ensures c.bid.ensures;
+      outcome = outcome_of g.L.Lock.takes c.args.call _ _ _ _ _ c.in-Bid.is c.of_taken.ensures c.bid.ensures;
       promises = promises g.met.L.Lock.keeps;
     }
 
 pub returns-in-Step : goal.returns-in-Step
 returns-in-Step g c =
     record {
-      outcome = outcome_of g.L.Lock.takes c.args.call _ _ _ _ _ c.in-Step.is c.of-answered.ensures c.step.ensures;
+      outcome = outcome_of g.L.Lock.takes c.args.call _ _ _ _ _ c.in-Step.is c.of_answered.ensures c.step.ensures;
       promises = promises g.met.L.Lock.keeps;
     }
 
 pub returns-in-Leave : goal.returns-in-Leave
 returns-in-Leave g c =
     record {
-      outcome = outcome_of g.L.Lock.takes c.args.call _ _ _ _ _ c.in-Leave.is c.of-taken-in-Leave.ensures c.leave.ensures;
+      outcome = outcome_of g.L.Lock.takes c.args.call _ _ _ _ _ c.in-Leave.is c.of_taken-in-Leave.ensures c.leave.ensures;
       promises = promises g.met.L.Lock.keeps;
     }
