@@ -2,7 +2,7 @@
 use Rattle.std.proofs.Common.{◌≡◌, ℕ, ◌+◌, ◌-◌, ◌*◌, ◌<◌, ◌≤◌, List, [], ◌∷◌, ◌++◌, map, length, get_or, take, drop, Ok, Result, sym, refl, ap, ◌∙◌, arith, length-drop}
 use Rattle.std.specs.List.{AllByRecursion as All}
 use Rattle.std.proofs.lemmas.List.{take_rest, take-append-drop, drop-drop, length-map}
-use Rattle.std.proofs.lemmas.Bool.{or_parts, ltb-false, leb-false, not_false, eqb-true}
+use Rattle.std.proofs.lemmas.Bool.{or_parts, ltb-false, leb-false, not-false, eqb-true}
 use Rattle.std.proofs.lemmas.Bool.Decides.{nat_tests}
 use Rattle.record.specs.declared.faults.RecordFault.{RecordFault}
 use Rattle.record.specs.declared.reader.Header.{Header}
@@ -42,9 +42,9 @@ header_passes bs h =
       some_places = ltb-false _ _ within.0;
       few_places = ltb-false _ _ within.1;
       few_calls = ltb-false _ _ (not_refused _ _ places.1);
-      usual_offset = eqb-true _ _ (not_false _ (not_refused _ _ offset.0));
-      own_length = eqb-true _ _ (not_false _ lengths.0);
-      given_length = eqb-true _ _ (not_false _ lengths.1);
+      usual_offset = eqb-true _ _ (not-false _ (not_refused _ _ offset.0));
+      own_length = eqb-true _ _ (not-false _ lengths.0);
+      given_length = eqb-true _ _ (not-false _ lengths.1);
     }
 
 -- what the test of a call tells

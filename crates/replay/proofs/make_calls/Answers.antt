@@ -21,15 +21,15 @@ unreachable-requires g c =
     let k = g.L.Lock in
     not_ended k.meaning k.takes k.made c.make_anew.new.lock (reading c.args.reader) c.args.log.now c.requires.0 c.requires.1
     c.loop-number.lock c.loop-number.number c.loop-number.log c.loop-number.tally (reading c.loop-number.reader) c.loop-number.invariant
-    (omega (arith, c.loop-number-test.true, c.calls-number-end.ensures)) c.next-call.result (reading c.next-call.new.self) c.next-call.ensures c.in-default.not_Some
+    (omega (arith, c.loop-number-test.true, c.calls-number-end.ensures)) c.next_call.result (reading c.next_call.new.self) c.next_call.ensures c.in_default.not_Some
 
-pub make-call-requires : goal.make-call-requires
-make-call-requires g c =
+pub make_call-requires : goal.make_call-requires
+make_call-requires g c =
     let k = g.L.Lock in
     let left : c.loop-number.number < (reading c.args.reader).call_count = omega (arith, c.loop-number-test.true, c.calls-number-end.ensures) in
     let placed = call_placed k.meaning k.takes k.made c.make_anew.new.lock (reading c.args.reader) c.args.log.now c.requires.0 c.requires.1
     c.loop-number.lock c.loop-number.number c.loop-number.log c.loop-number.tally (reading c.loop-number.reader) c.loop-number.invariant
-    left c.next-call.result (reading c.next-call.new.self) c.next-call.ensures c.in-Some.call c.in-Some.is in (
+    left c.next_call.result (reading c.next_call.new.self) c.next_call.ensures c.in-Some.call c.in-Some.is in (
       ready k.meaning k.takes k.made c.make_anew.new.lock (reading c.args.reader) c.args.log.now c.requires.0 c.requires.1
           c.loop-number.lock c.loop-number.number c.loop-number.log c.loop-number.tally (reading c.loop-number.reader) c.loop-number.invariant left c.call_asked.result (omega (arith, placed, ap (λ (x : Call). x.place) c.call_asked.ensures)),
       omega (
@@ -45,9 +45,9 @@ loop-number-preserved g c =
     let k = g.L.Lock in
     one_more k.meaning k.takes k.made c.make_anew.new.lock (reading c.args.reader) c.args.log.now c.requires.0 c.requires.1
     c.loop-number.lock c.loop-number.number c.loop-number.log c.loop-number.tally (reading c.loop-number.reader) c.loop-number.invariant
-    (omega (arith, c.loop-number-test.true, c.calls-number-end.ensures)) c.next-call.result (reading c.next-call.new.self) c.next-call.ensures
-    c.in-Some.call c.in-Some.is c.call_asked.result c.call_asked.ensures c.make-call.new.lock c.make-call.result c.make-call.new.log c.make-call.new.tally
-    c.make-call.ensures.outcome c.make-call.ensures.count c.make-call.ensures.entry
+    (omega (arith, c.loop-number-test.true, c.calls-number-end.ensures)) c.next_call.result (reading c.next_call.new.self) c.next_call.ensures
+    c.in-Some.call c.in-Some.is c.call_asked.result c.call_asked.ensures c.make_call.new.lock c.make_call.result c.make_call.new.log c.make_call.new.tally
+    c.make_call.ensures.outcome c.make_call.ensures.count c.make_call.ensures.entry
 
 pub returns : goal.returns
 returns g c =

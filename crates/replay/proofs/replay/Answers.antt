@@ -6,31 +6,31 @@ use Rattle.replay.specs.Replays.{Replayed}
 use Rattle.replay.proofs.Opened.{refused_by_record, bytes_same, at_start, other_places, short_log, accepted}
 use Rattle.replay.proofs.replay.Goals as goal
 
-pub returns-in-err-reader : goal.returns-in-err-reader
-returns-in-err-reader g c =
-    let p = err_from_is_err_and c.from-residual.result c.from-residual.ensures.1 in
+pub returns-in_err-reader : goal.returns-in_err-reader
+returns-in_err-reader g c =
+    let p = err_from_is_err_and c.from_residual.result c.from_residual.ensures.1 in
     record {
-      outcome = rw (p.1, p.2) (refused_by_record c.args.bytes.now _ _ _ c.in-err-reader.ensures.outcome, refl, refl);
+      outcome = rw (p.1, p.2) (refused_by_record c.args.bytes.now _ _ _ c.in_err-reader.ensures.outcome, refl, refl);
       promises = promises g.met.L.Lock.keeps;
     }
 
 pub returns-then-places : goal.returns-then-places
 returns-then-places g c =
     record {
-      outcome = (other_places c.args.bytes.now c.in-ok-reader.reader c.in-ok-reader.ensures.outcome _ _ (λ same. c.if-places.true (c.places.ensures.value ∙ same ∙ sym c.places-2.ensures)), refl, refl);
+      outcome = (other_places c.args.bytes.now c.in_ok-reader.reader c.in_ok-reader.ensures.outcome _ _ (λ same. c.if-places.true (c.places.ensures.value ∙ same ∙ sym c.places-2.ensures)), refl, refl);
       promises = promises g.met.L.Lock.keeps;
     }
 
 pub returns-then-log-calls : goal.returns-then-log-calls
 returns-then-log-calls g c =
     record {
-      outcome = (short_log c.args.bytes.now c.in-ok-reader.reader c.in-ok-reader.ensures.outcome _ _ (sym c.places.ensures.value ∙ c.if-places.false ∙ c.places-2.ensures) (omega (arith, c.if-log-calls.true, c.calls.ensures)), refl, refl);
+      outcome = (short_log c.args.bytes.now c.in_ok-reader.reader c.in_ok-reader.ensures.outcome _ _ (sym c.places.ensures.value ∙ c.if-places.false ∙ c.places-2.ensures) (omega (arith, c.if-log-calls.true, c.calls.ensures)), refl, refl);
       promises = promises g.met.L.Lock.keeps;
     }
 
-pub make-calls-requires : goal.make-calls-requires
-make-calls-requires g c = (
-  at_start c.args.bytes.now c.in-ok-reader.reader c.in-ok-reader.ensures.outcome c.in-ok-reader.ensures.sound,
+pub make_calls-requires : goal.make_calls-requires
+make_calls-requires g c = (
+  at_start c.args.bytes.now c.in_ok-reader.reader c.in_ok-reader.ensures.outcome c.in_ok-reader.ensures.sound,
   omega (arith, c.if-log-calls.false, c.calls.ensures),
 )
 
@@ -38,8 +38,8 @@ pub returns : goal.returns
 returns g c =
     record {
       outcome = (
-        accepted c.args.bytes.now c.in-ok-reader.reader c.in-ok-reader.ensures.outcome _ _ (sym c.places.ensures.value ∙ c.if-places.false ∙ c.places-2.ensures) (omega (arith, c.if-log-calls.false, c.calls.ensures)),
-        subst (λ (bs : List ℕ). Replayed g.L.Lock.meaning g.L.Lock.takes g.L.Lock.made c.args.lock.now c.make-calls.new.lock bs c.args.log.now c.make-calls.new.log c.make-calls.result) (bytes_same c.args.bytes.now c.in-ok-reader.reader c.in-ok-reader.ensures.outcome) c.make-calls.ensures,
+        accepted c.args.bytes.now c.in_ok-reader.reader c.in_ok-reader.ensures.outcome _ _ (sym c.places.ensures.value ∙ c.if-places.false ∙ c.places-2.ensures) (omega (arith, c.if-log-calls.false, c.calls.ensures)),
+        subst (λ (bs : List ℕ). Replayed g.L.Lock.meaning g.L.Lock.takes g.L.Lock.made c.args.lock.now c.make_calls.new.lock bs c.args.log.now c.make_calls.new.log c.make_calls.result) (bytes_same c.args.bytes.now c.in_ok-reader.reader c.in_ok-reader.ensures.outcome) c.make_calls.ensures,
       );
       promises = promises g.met.L.Lock.keeps;
     }

@@ -15,11 +15,11 @@ stepped s = (peterson_run s (step_by 0)).after
 
 pub returns : goal.returns
 returns c =
-    let bid = follows peterson_runs peterson_made _ _ (bid_by 0) _ c.new_lock.ensures c.call-on-bid.ensures.outcome in
-    let first = follows peterson_runs bidden _ _ (step_by 0) _ bid.1 c.call-on-first.ensures.outcome in
-    let second = follows peterson_runs (stepped bidden) _ _ (step_by 0) _ first.1 c.call-on-second.ensures.outcome in
-    let third = follows peterson_runs (stepped (stepped bidden)) _ _ (step_by 0) _ second.1 c.call-on-third.ensures.outcome in
-    let fourth = follows peterson_runs (stepped (stepped (stepped bidden))) _ _ (step_by 0) _ third.1 c.call-on-fourth.ensures.outcome in
+    let bid = follows peterson_runs peterson_made _ _ (bid_by 0) _ c.new-lock.ensures c.call_on-bid.ensures.outcome in
+    let first = follows peterson_runs bidden _ _ (step_by 0) _ bid.1 c.call_on-first.ensures.outcome in
+    let second = follows peterson_runs (stepped bidden) _ _ (step_by 0) _ first.1 c.call_on-second.ensures.outcome in
+    let third = follows peterson_runs (stepped (stepped bidden)) _ _ (step_by 0) _ second.1 c.call_on-third.ensures.outcome in
+    let fourth = follows peterson_runs (stepped (stepped (stepped bidden))) _ _ (step_by 0) _ third.1 c.call_on-fourth.ensures.outcome in
     record {
       replies = rw (bid.0, first.0, second.0, third.0, fourth.0);
       registers = ap (λ (s : Peterson). (peterson_meaning s).registers) fourth.1;

@@ -5,5 +5,5 @@ use Rattle.program.proofs.runs.run.Goals as goal
 
 pub returns : goal.returns
 returns c =
-    runs_on c.args.input.now _ _ _ c.in-Some.pile _ c.run-pile.result
-    (first_rest c.args.input.now 0 (omega (arith, ltb-false))) c.handed_on.ensures (sym c.pile_of.ensures ∙ c.in-Some.is) (search rules) c.run-pile.ensures
+    runs_on c.args.input.now _ _ _ c.in-Some.pile _ c.run_pile.result
+    (first_rest c.args.input.now 0 (omega (arith, ltb-false))) c.handed_on.ensures (sym c.pile_of.ensures ∙ c.in-Some.is) (search rules) c.run_pile.ensures

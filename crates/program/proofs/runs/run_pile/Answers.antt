@@ -11,4 +11,4 @@ returns-in-EightBoxes c =
     let slots = length c.args.log.now in
     let r = c.play-in-EightBoxes.result in
     subst (λ (p : PileName). IfOk r (λ o. OnPile p number bs slots o)) (sym c.in-EightBoxes.is)
-    (subst (λ (s : Eight). IfOk r (λ o. PlayedOn eight_form s number bs slots o)) c.pile_four_lock.ensures c.play-in-EightBoxes.ensures)
+    (subst (λ (s : Eight). IfOk r (λ o. PlayedOn eight_form s number bs slots o)) c.pile_four-lock.ensures c.play-in-EightBoxes.ensures)

@@ -7,7 +7,7 @@ use Rattle.program.proofs.text.push_numbers.Goals as goal
 pub loop-number-preserved : goal.loop-number-preserved
 loop-number-preserved c =
     joined_step number_text c.args.numbers.now c.loop-number.number-index 0 (string_bytes c.args.text.now) _ _ _
-    c.loop-number-test.true c.loop-number.invariant c.in-ok-push-str.ensures.bytes (c.as-str.ensures.value ∙ c.in-ok-word.ensures)
+    c.loop-number-test.true c.loop-number.invariant c.in_ok-push_str.ensures.bytes (c.as_str.ensures.value ∙ c.in_ok-word.ensures)
 
 pub returns : goal.returns
 returns c = search (rules, take_all)

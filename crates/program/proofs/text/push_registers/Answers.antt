@@ -9,8 +9,8 @@ loop-index-preserved g c =
     let registers = (g.L.Lock.meaning c.args.lock.now).registers in
     let within : c.loop-index.index < length registers = omega (arith, c.loop-index-test.true, c.register-count-index-end.ensures.value) in
     joined_step number_text registers c.loop-index.index 0 (string_bytes c.args.text.now) _ _ _
-    within c.loop-index.invariant c.in-ok-push-str.ensures.bytes
-    (c.as-str.ensures.value ∙ c.in-ok-word.ensures ∙ ap (optional_text number_text) (slice_get-get_or registers c.loop-index.index 0 within))
+    within c.loop-index.invariant c.in_ok-push_str.ensures.bytes
+    (c.as_str.ensures.value ∙ c.in_ok-word.ensures ∙ ap (optional_text number_text) (slice_get-get_or registers c.loop-index.index 0 within))
 
 pub returns : goal.returns
 returns g c =

@@ -8,4 +8,4 @@ pub loop-rest-preserved : goal.loop-rest-preserved
 loop-rest-preserved c =
     let two : 2 ≤ length c.loop-rest.rest.now = omega (arith, ltb-false) in
     rw take_rest
-    (calls_test_more _ _ _ two (sym c.check-call.ensures ∙ c.in-ok-check-call.was) ∙ c.loop-rest.invariant.0, rw length-drop (omega arith))
+    (calls_test_more _ _ _ two (sym c.check_call.ensures ∙ c.in_ok-check_call.was) ∙ c.loop-rest.invariant.0, rw length-drop (omega arith))

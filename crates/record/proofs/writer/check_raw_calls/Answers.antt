@@ -4,17 +4,17 @@ use Rattle.std.proofs.lemmas.List.{drop_more, drop_all}
 use Rattle.std.proofs.lemmas.Result.{err_from_is_err_and}
 use Rattle.record.proofs.writer.check_raw_calls.Goals as goal
 
-pub returns-in-err-check-call : goal.returns-in-err-check-call
-returns-in-err-check-call c =
-    let p = err_from_is_err_and c.from-residual.result c.from-residual.ensures.1 in
+pub returns-in_err-check_call : goal.returns-in_err-check_call
+returns-in_err-check_call c =
+    let p = err_from_is_err_and c.from_residual.result c.from_residual.ensures.1 in
     let left = drop_more c.args.calls.now c.loop-call.call-index (record { kind = 0; place = 0 }) c.loop-call-test.true in
-    let failed = sym c.check-call.ensures ∙ c.in-err-check-call.was in
+    let failed = sym c.check_call.ensures ∙ c.in_err-check_call.was in
     rw (p.1, p.2, ← c.loop-call.invariant.1, left, failed) refl
 
 pub loop-call-preserved : goal.loop-call-preserved
 loop-call-preserved c =
     let left = drop_more c.args.calls.now c.loop-call.call-index (record { kind = 0; place = 0 }) c.loop-call-test.true in
-    let passed = sym c.check-call.ensures ∙ c.in-ok-check-call.was in
+    let passed = sym c.check_call.ensures ∙ c.in_ok-check_call.was in
     (omega arith, rw (← c.loop-call.invariant.1, left, passed) refl)
 
 pub returns : goal.returns

@@ -6,4 +6,4 @@ use Rattle.record.proofs.writer.put.Goals as goal
 pub returns : goal.returns
 returns c =
     let count : c.args.start + length c.args.bytes.now - c.args.start ≡ length c.args.bytes.now = omega arith in
-    rw (c.copy-from-slice.ensures.after, count, drop-drop (length c.args.bytes.now) c.args.start c.args.buffer.now) refl
+    rw (c.copy_from_slice.ensures.after, count, drop-drop (length c.args.bytes.now) c.args.start c.args.buffer.now) refl

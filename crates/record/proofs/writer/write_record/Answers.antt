@@ -11,15 +11,15 @@ pub returns : goal.returns
 returns c =
     let calls = c.args.calls.now in
     let buffer = c.args.buffer.now in
-    let counts = sym c.check-counts.ensures ∙ c.in-ok-check-counts.was in
-    let each = sym c.check-raw-calls.ensures ∙ c.in-ok-check-raw-calls.was in
+    let counts = sym c.check_counts.ensures ∙ c.in_ok-check_counts.was in
+    let each = sym c.check_raw_calls.ensures ∙ c.in_ok-check_raw_calls.was in
     let passed : writing_test c.args.places calls (length buffer) ≡ Ok tt = rw (counts, each, le-ltb _ _ c.if-buffer-length.false) refl in
     let put = record_put c.args.places calls buffer _ _ _ _ _
-    (c.put.ensures ∙ ap (put_at buffer 0) c.to-le-bytes.ensures)
-    (c.put-2.ensures ∙ ap (put_at c.put.new.buffer 4) c.to-le-bytes-2.ensures)
-    (c.put-3.ensures ∙ ap (put_at c.put-2.new.buffer 8) c.to-le-bytes-3.ensures)
-    (c.put-4.ensures ∙ ap (put_at c.put-3.new.buffer 12) c.to-le-bytes-4.ensures)
-    c.put-calls.ensures in
+    (c.put.ensures ∙ ap (put_at buffer 0) c.to_le_bytes.ensures)
+    (c.put-2.ensures ∙ ap (put_at c.put.new.buffer 4) c.to_le_bytes-2.ensures)
+    (c.put-3.ensures ∙ ap (put_at c.put-2.new.buffer 8) c.to_le_bytes-3.ensures)
+    (c.put-4.ensures ∙ ap (put_at c.put-3.new.buffer 12) c.to_le_bytes-4.ensures)
+    c.put_calls.ensures in
     record {
       outcome = rw passed refl;
       buffer = rw passed put;

@@ -42,13 +42,13 @@ left = (run entered (leave_by 0)).after
 
 pub returns : goal.returns
 returns c =
-    let bid = follows runs new _ _ (bid_by 0) _ c.new_pile.ensures c.call-on-bid.ensures.outcome in
-    let first = follows runs bidden _ _ (step_by 0) _ bid.1 c.call-on-first.ensures.outcome in
-    let second = follows runs (stepped bidden) _ _ (step_by 0) _ first.1 c.call-on-second.ensures.outcome in
-    let third = follows runs (stepped (stepped bidden)) _ _ (step_by 0) _ second.1 c.call-on-third.ensures.outcome in
-    let fourth = follows runs (stepped (stepped (stepped bidden))) _ _ (step_by 0) _ third.1 c.call-on-fourth.ensures.outcome in
-    let fifth = follows runs (stepped (stepped (stepped (stepped bidden)))) _ _ (step_by 0) _ fourth.1 c.call-on-fifth.ensures.outcome in
-    let leave = follows runs entered _ _ (leave_by 0) _ fifth.1 c.call-on-leave.ensures.outcome in
-    let sixth = follows runs left _ _ (step_by 0) _ leave.1 c.call-on-sixth.ensures.outcome in
-    let seventh = follows runs (stepped left) _ _ (step_by 0) _ sixth.1 c.call-on-seventh.ensures.outcome in
+    let bid = follows runs new _ _ (bid_by 0) _ c.new-pile.ensures c.call_on-bid.ensures.outcome in
+    let first = follows runs bidden _ _ (step_by 0) _ bid.1 c.call_on-first.ensures.outcome in
+    let second = follows runs (stepped bidden) _ _ (step_by 0) _ first.1 c.call_on-second.ensures.outcome in
+    let third = follows runs (stepped (stepped bidden)) _ _ (step_by 0) _ second.1 c.call_on-third.ensures.outcome in
+    let fourth = follows runs (stepped (stepped (stepped bidden))) _ _ (step_by 0) _ third.1 c.call_on-fourth.ensures.outcome in
+    let fifth = follows runs (stepped (stepped (stepped (stepped bidden)))) _ _ (step_by 0) _ fourth.1 c.call_on-fifth.ensures.outcome in
+    let leave = follows runs entered _ _ (leave_by 0) _ fifth.1 c.call_on-leave.ensures.outcome in
+    let sixth = follows runs left _ _ (step_by 0) _ leave.1 c.call_on-sixth.ensures.outcome in
+    let seventh = follows runs (stepped left) _ _ (step_by 0) _ sixth.1 c.call_on-seventh.ensures.outcome in
     rw (bid.0, first.0, second.0, third.0, fourth.0, fifth.0, leave.0, sixth.0, seventh.0)

@@ -7,32 +7,32 @@ use Rattle.record.proofs.Sequence.{fails_first}
 use Rattle.record.proofs.Passing.{reading_test_is, sound}
 use Rattle.record.proofs.reader.Reader.open.Goals as goal
 
-pub returns-in-err-header : goal.returns-in-err-header
-returns-in-err-header c =
-    let p = err_from_is_err_and c.from-residual.result c.from-residual.ensures.1 in
+pub returns-in_err-header : goal.returns-in_err-header
+returns-in_err-header c =
+    let p = err_from_is_err_and c.from_residual.result c.from_residual.ensures.1 in
     let bs = c.args.bytes.now in
     record {
-      outcome = rw (p.1, p.2) (sym (fails_first (header_test bs) (calls_test (places_in bs) 16 (drop 16 bs)) _ _ _ (sym c.read-header.ensures ∙ c.in-err-header.was)));
+      outcome = rw (p.1, p.2) (sym (fails_first (header_test bs) (calls_test (places_in bs) 16 (drop 16 bs)) _ _ _ (sym c.read_header.ensures ∙ c.in_err-header.was)));
       start = rw p.1 tt;
       sound = rw p.1 tt;
     }
 
-pub returns-in-err-check-calls : goal.returns-in-err-check-calls
-returns-in-err-check-calls c =
-    let p = err_from_is_err_and c.from-residual-in-err-check-calls.result c.from-residual-in-err-check-calls.ensures.1 in
-    let test = reading_test_is c.args.bytes.now c.in-ok-header.header c.check-calls.result (sym c.read-header.ensures ∙ c.in-ok-header.was) c.check-calls.ensures in
+pub returns-in_err-check_calls : goal.returns-in_err-check_calls
+returns-in_err-check_calls c =
+    let p = err_from_is_err_and c.from_residual-in_err-check_calls.result c.from_residual-in_err-check_calls.ensures.1 in
+    let test = reading_test_is c.args.bytes.now c.in_ok-header.header c.check_calls.result (sym c.read_header.ensures ∙ c.in_ok-header.was) c.check_calls.ensures in
     record {
-      outcome = rw (p.1, p.2, test.0, c.in-err-check-calls.was) refl;
+      outcome = rw (p.1, p.2, test.0, c.in_err-check_calls.was) refl;
       start = rw p.1 tt;
       sound = rw p.1 tt;
     }
 
 pub returns : goal.returns
 returns c =
-    let test = reading_test_is c.args.bytes.now c.in-ok-header.header c.check-calls.result (sym c.read-header.ensures ∙ c.in-ok-header.was) c.check-calls.ensures in
-    let passed = test.0 ∙ c.in-ok-check-calls.was in
+    let test = reading_test_is c.args.bytes.now c.in_ok-header.header c.check_calls.result (sym c.read_header.ensures ∙ c.in_ok-header.was) c.check_calls.ensures in
+    let passed = test.0 ∙ c.in_ok-check_calls.was in
     record {
       outcome = rw (passed, ← test.1) refl;
       start = rw (← test.1) refl;
-      sound = sound c.args.bytes.now (λ i. omega (arith, c.type-inv.bytes i)) passed;
+      sound = sound c.args.bytes.now (λ i. omega (arith, c.type_inv.bytes i)) passed;
     }
