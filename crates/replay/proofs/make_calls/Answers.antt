@@ -13,7 +13,7 @@ loop-number-init g c =
     let start = reading c.args.reader in
     subst
     (λ (x : Tally). SoFar k.meaning k.takes k.made c.make_anew.new.lock c.make_anew.new.lock start 0 c.args.log.now c.args.log.now x start)
-    (sym c.none_tally.ensures)
+    (sym c.none-tally.ensures)
     (none_yet k.meaning k.takes k.made c.make_anew.new.lock start c.args.log.now c.requires.0 c.requires.1)
 
 pub unreachable-requires : goal.unreachable-requires
@@ -21,7 +21,7 @@ unreachable-requires g c =
     let k = g.L.Lock in
     not_ended k.meaning k.takes k.made c.make_anew.new.lock (reading c.args.reader) c.args.log.now c.requires.0 c.requires.1
     c.loop-number.lock c.loop-number.number c.loop-number.log c.loop-number.tally (reading c.loop-number.reader) c.loop-number.invariant
-    (omega (arith, c.loop-number-test.true, c.calls-number-end.ensures)) c.next_call.result (reading c.next_call.new.self) c.next_call.ensures c.in_default.not_Some
+    (omega (arith, c.loop-number-test.true, c.calls-number-end.ensures)) c.next_call.result (reading c.next_call.new.self) c.next_call.ensures c.in_default.not-Some
 
 pub make_call-requires : goal.make_call-requires
 make_call-requires g c =
