@@ -8,8 +8,8 @@ use Rattle.program.proofs.runs.play.Goals as goal
 pub slice_bounds-report_lines-end : goal.slice_bounds-report_lines-end
 slice_bounds-report_lines-end g c = omega (arith, c.in-Ok.ensures.outcome.1.room, c.replay.auto.log)
 
-pub returns-in_ok-text : goal.returns-in_ok-text
-returns-in_ok-text g c =
+pub returns-in_ok-text-in-Ok : goal.returns-in_ok-text-in-Ok
+returns-in_ok-text-in-Ok g c =
     let o = c.in-Ok.ensures.outcome in
     let m = g.L.Lock.meaning c.replay.new.lock in
     let summary = c.in-Ok.summary in
@@ -21,6 +21,6 @@ returns-in_ok-text g c =
         events = o.1.events;
         past = o.1.past;
         calls = o.1.calls;
-        lines = c.in_ok-text.ensures ∙ ap (λ l. report_text c.args.pile m l summary) front ∙ ap (λ (s : Summary). report_text c.args.pile m (entries o.1.events) s) o.1.report;
+        lines = c.in_ok-text-in-Ok.ensures ∙ ap (λ l. report_text c.args.pile m l summary) front ∙ ap (λ (s : Summary). report_text c.args.pile m (entries o.1.events) s) o.1.report;
       },
     )

@@ -15,7 +15,7 @@ loop-place-preserved g c =
     let there = lt-ltb place m.places below in
     joined_step phase_letter (phases_of m) place Out (string_bytes c.args.text.now) _ _ _
     within c.loop-place.invariant c.in_ok-push_str.ensures.bytes
-    (c.phase-word.ensures ∙ rw there (ap phase_letter (sym (get_or-map-range_with_len m.phase 0 m.places place place Out below (omega arith)))))
+    (c.phase_word.ensures ∙ rw there (ap phase_letter (sym (get_or-map-range_with_len m.phase 0 m.places place place Out below (omega arith)))))
 
 pub returns : goal.returns
 returns g c =
