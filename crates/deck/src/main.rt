@@ -2,10 +2,10 @@
 
 ghost use Rattle.std.specs.Prelude.{◌≤◌, length, IfOk};
 
-use anyhow::anyhow;
 use program::{Outcome, refusal_line, run};
 use std::io;
 use std::io::Read;
+use std::process::ExitCode;
 
 // A pile number, and one byte more than the longest record has.
 const INPUT_LIMIT: usize = 40_018;
@@ -44,11 +44,11 @@ fn replay_input(rt: &HostRuntime) -> anyhow::Result<bool> {
     }
 }
 
-fn main(rt: HostRuntime) -> anyhow::Result<()> {
-    match replay_input(&rt) {
-        Ok(true) => Ok(()),
-        // The refusal is printed already; the process ends with status 1.
-        Ok(false) => Err(anyhow!("refused")),
-        Err(error) => Err(error),
+fn main(rt: HostRuntime) -> anyhow::Result<ExitCode> {
+    if replay_input(&rt)? {
+        Ok(ExitCode::SUCCESS)
+    } else {
+        // The refusal is printed already.
+        Ok(ExitCode::FAILURE)
     }
 }
