@@ -91,20 +91,20 @@ pub enum Reply {
 
 impl Reply {
     // The reply in what a bid or a leave returns.
-    fn of_taken(res: Result<(), Refusal>) -> Reply
-        ensures { result ≡ taken_or res }
+    fn of_taken(returned: Result<(), Refusal>) -> Reply
+        ensures { result ≡ taken_or returned }
     {
-        match res {
+        match returned {
             Ok(()) => Reply::Taken,
             Err(refusal) => Reply::Refused(refusal),
         }
     }
 
     // The reply in what a step returns.
-    fn of_answered(res: Result<Answer, Refusal>) -> Reply
-        ensures { result ≡ answered_or res }
+    fn of_answered(returned: Result<Answer, Refusal>) -> Reply
+        ensures { result ≡ answered_or returned }
     {
-        match res {
+        match returned {
             Ok(answer) => Reply::Answered(answer),
             Err(refusal) => Reply::Refused(refusal),
         }

@@ -107,11 +107,15 @@ impl<T: Lock, L: Lock, R: Lock> Pile<T, L, R> {
     }
 
     // What follows a step at the side: a box that entered there bids at the top in the same call.
-    fn after_side(&mut self, side: Side, res: Result<Answer, Refusal>) -> Result<Answer, Refusal>
-        ensures { AfterSide T.Lock.takes L.Lock.takes R.Lock.takes (answered_or res) side self.old (answered_or result) self.new }
+    fn after_side(
+        &mut self,
+        side: Side,
+        returned: Result<Answer, Refusal>,
+    ) -> Result<Answer, Refusal>
+        ensures { AfterSide T.Lock.takes L.Lock.takes R.Lock.takes (answered_or returned) side self.old (answered_or result) self.new }
     {
-        let Ok(Answer::Enters) = res else {
-            return res;
+        let Ok(Answer::Enters) = returned else {
+            return returned;
         };
         // The side had no holder before, so its place at the top is out, and the top has taken
         // fewer bids than the sides: it does not refuse.
@@ -124,12 +128,12 @@ impl<T: Lock, L: Lock, R: Lock> Pile<T, L, R> {
         &mut self,
         side: Side,
         place: usize,
-        res: Result<Answer, Refusal>,
+        returned: Result<Answer, Refusal>,
     ) -> Result<Answer, Refusal>
-        ensures { AfterTop T.Lock.takes L.Lock.takes R.Lock.takes (answered_or res) side place self.old (answered_or result) self.new }
+        ensures { AfterTop T.Lock.takes L.Lock.takes R.Lock.takes (answered_or returned) side place self.old (answered_or result) self.new }
     {
-        let Ok(Answer::Out) = res else {
-            return res;
+        let Ok(Answer::Out) = returned else {
+            return returned;
         };
         // The box holds its side, so the side does not refuse.
         let _ = self.side_leave(side, place);

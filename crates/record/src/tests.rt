@@ -315,8 +315,8 @@ const WRITINGS: [Writing; 17] = [
     },
 ];
 
-fn outcome_of(res: Result<usize, RecordFault>) -> Result<usize, Refusal> {
-    match res {
+fn outcome_of(returned: Result<usize, RecordFault>) -> Result<usize, Refusal> {
+    match returned {
         Ok(length) => Ok(length),
         Err(fault) => Err(refusal_of(fault)),
     }

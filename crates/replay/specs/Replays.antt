@@ -18,7 +18,7 @@ use Rattle.replay.specs.declared.faults.ReplayFault.{ReplayFault}
 use Rattle.replay.specs.declared.faults.ReplayFault.TheVariants.{OfRecord, OtherPlaces, ShortLog}
 use Rattle.replay.specs.declared.report.Entry.{Entry}
 use Rattle.replay.specs.declared.report.Summary.{Summary}
-use Rattle.replay.specs.Reports.{entries as entries-of, summary_of, logged}
+use Rattle.replay.specs.Reports.{entries as entries_of, summary_of, logged}
 
 -- a test that the record fails is the outcome; else what comes after it
 abbrev pub carried : Result Unit RecordFault → Result Unit ReplayFault → Result Unit ReplayFault
@@ -63,7 +63,7 @@ module _ {L : Type 0} (meaning : L → Meaning) (takes : L → Call → Reply �
     pub entries : log' ≡ logged events log
     -- the entries are the front of the log, as many as are counted
     pub room : summary.counts.enters ≤ length log
-    pub front : take summary.counts.enters log' ≡ entries-of events
+    pub front : take summary.counts.enters log' ≡ entries_of events
     pub report : summary ≡ summary_of events
     -- the gap is within M
     pub within : summary.gap ≤ (meaning s).call_limit

@@ -110,6 +110,6 @@ pub record Ready (t : Tally) (c : Call) : Type 0 where
 abbrev pub summarized : ℕ → Tally → Summary
 summarized n t = record { calls = n; counts = t.counts; gap = t.stretch.longest; passed = most_waited t.waiting }
 
--- the log after one call more, the k_th, where there are so many entries before
+-- the log after one call more, the k-th, where there are so many entries before
 abbrev pub log_after : List Entry → ℕ → ℕ → Call → Reply → List Entry
 log_after log entries k c r = cond (is_entry r) (slice_set log entries (record { call = k; place = c.place })) log
