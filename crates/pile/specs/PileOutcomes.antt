@@ -19,7 +19,7 @@ use Rattle.lock.proofs.Admitted.{admitted, out_fits, holding_fits}
 use Rattle.pile.specs.declared.Side.{Side}
 use Rattle.pile.specs.declared.Side.TheVariants.{Left, Right}
 use Rattle.pile.specs.declared.Pile.{Pile}
-use Rattle.pile.specs.Finding.{Meanings, side_of, top_place, pile_places, room, found}
+use Rattle.pile.specs.Finding.{Meanings, side_of, top_place, pile_places, found}
 use Rattle.pile.specs.PileMeaning.{own_or_top, pile_bids, pile_meaning}
 use Rattle.pile.specs.PileCalls.{TopTakes, SideTakes, BidAt, AfterSide, AfterTop, SideSteps, TopSteps, StepAt, LeaveAt, CallAt, CallOf, PileTakes}
 use Rattle.pile.specs.Joined.{Joined}
