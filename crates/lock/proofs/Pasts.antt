@@ -1,7 +1,7 @@
 -- The promises over pasts, for any lock that keeps the meaning. Assumes nothing.
 use Rattle.std.proofs.Common.{◌≡◌, ℕ, pred, ◌+◌, ◌≤◌, Bool, true, false, cond, ◌||◌, eqb, List, [], ◌∷◌, Some, None, Option, sym, refl, ap, ◌∙◌, subst, ⊎_elim, arith}
 use Rattle.std.proofs.lemmas.Bool.{eq-eqb, ne_eqb, cases_eq, cond_both, true≢false, cases_Bool}
-use Rattle.std.specs.List.{AllByRecursion as All}
+use Rattle.std.specs.List.{AllByRecursion}
 use Rattle.lock.specs.declared.Phase.{Phase}
 use Rattle.lock.specs.declared.Phase.TheVariants.{Out, Bidding, Holding, Leaving}
 use Rattle.lock.specs.declared.Answer.{Answer}
@@ -129,7 +129,7 @@ open_idle m m' c r (Some e) q n d h i o =
 -- the stretch that is still going on has left at least the credit c of the limit M
 abbrev Spared : ℕ → ℕ → List (List Event) → Type 0
 Spared M c [] = ⊥
-Spared M c (s ∷ ss) = (work s + c ≤ M) × All (λ stretch. work stretch ≤ M) ss
+Spared M c (s ∷ ss) = (work s + c ≤ M) × AllByRecursion (λ stretch. work stretch ≤ M) ss
 
 spared_entry : (M c c' : ℕ) (ss : List (List Event)) → c' ≤ M → Spared M c ss → Spared M c' ([] ∷ ss)
 spared_entry M c c' [] h k = absurd k
@@ -139,7 +139,7 @@ spared_other : (M c c' : ℕ) (e : Event) (ss : List (List Event)) → work_of e
 spared_other M c c' e [] h k = absurd k
 spared_other M c c' e (s ∷ ss) h k = (omega (arith, h, k.0), k.1)
 
-spared_all : (M c : ℕ) (ss : List (List Event)) → Spared M c ss → All (λ stretch. work stretch ≤ M) ss
+spared_all : (M c : ℕ) (ss : List (List Event)) → Spared M c ss → AllByRecursion (λ stretch. work stretch ≤ M) ss
 spared_all M c [] k = absurd k
 spared_all M c (s ∷ ss) k = (omega (arith, k.0), k.1)
 
@@ -201,7 +201,7 @@ module _ {L : Type 0} {meaning : L → Meaning} {takes : L → Call → Reply �
   economy : Economy meaning takes made
   economy s es t past = spared_all (meaning s).call_limit (meaning t).credit (stretches es) (spared s es t past)
 
-  run_open : (s : L) (q d : ℕ) → sound s → (meaning s).mark q ≡ open_after d → (next : List Event) (t : L) → Run meaning takes made s next t → All (λ e. idle e.reply ≡ true) next → Open (meaning t) q (waits q next) d
+  run_open : (s : L) (q d : ℕ) → sound s → (meaning s).mark q ≡ open_after d → (next : List Event) (t : L) → Run meaning takes made s next t → AllByRecursion (λ e. idle e.reply ≡ true) next → Open (meaning t) q (waits q next) d
   run_open s q d so mark [] t run calm = record { left = d; mark = ap (λ (x : L). (meaning x).mark q) run ∙ mark; sum = omega arith }
   run_open s q d so mark (e ∷ es) t run calm =
       let before = run_open s q d so mark es run.0 run.1 calm.1 in

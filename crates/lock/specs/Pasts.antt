@@ -1,6 +1,7 @@
 -- What holds of a lock after every past: one holder, progress, economy. Assumes nothing.
+-- AllByRecursion P xs, of the library, says that P holds of each element of xs.
 use Rattle.std.specs.Prelude.{◌≡◌, ℕ, ◌+◌, ◌<◌, ◌≤◌, Bool, true, false, cond, ◌||◌, List, [], ◌∷◌, Some, None, ◌==◌, ◌≢◌, nat_lt}
-use Rattle.std.specs.List.{AllByRecursion as All}
+use Rattle.std.specs.List.{AllByRecursion}
 use Rattle.lock.specs.declared.Phase.{Phase}
 use Rattle.lock.specs.declared.Phase.TheVariants.{Out, Bidding, Holding, Leaving}
 use Rattle.lock.specs.declared.Answer.TheVariants.{Waits, Moves, Enters, Out as Gone}
@@ -114,12 +115,12 @@ module _ {L : Type 0} (meaning : L → Meaning) (takes : L → Call → Reply �
   Progress =
       (s : L) (es : List Event) (t : L) → Past s es t →
       ((p : ℕ) → phase_from es p ≢ Holding) → (p : ℕ) → Active (phase_from es p) →
-      (next : List Event) (u : L) → Run t next u → All (λ e. (is_refusal e.reply || is_wait e.reply) ≡ true) next →
+      (next : List Event) (u : L) → Run t next u → AllByRecursion (λ e. (is_refusal e.reply || is_wait e.reply) ≡ true) next →
       (q : ℕ) × Active (phase_from es q) × (waits q next < (meaning s).wait_limit)
 
   -- in every stretch at most M accepted calls neither wait nor enter
   abbrev pub Economy : Type 0
-  Economy = (s : L) (es : List Event) (t : L) → Past s es t → All (λ stretch. work stretch ≤ (meaning s).call_limit) (stretches es)
+  Economy = (s : L) (es : List Event) (t : L) → Past s es t → AllByRecursion (λ stretch. work stretch ≤ (meaning s).call_limit) (stretches es)
 
   pub record Promises : Type 0 where
     pub fixed : Fixed

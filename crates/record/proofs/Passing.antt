@@ -1,6 +1,6 @@
 -- A record that passes the tests of the reader is sound. Assumes nothing.
 use Rattle.std.proofs.Common.{◌≡◌, ℕ, ◌+◌, ◌-◌, ◌*◌, ◌<◌, ◌≤◌, List, [], ◌∷◌, ◌++◌, map, length, get_or, take, drop, Ok, Result, sym, refl, ap, ◌∙◌, arith, length-drop}
-use Rattle.std.specs.List.{AllByRecursion as All}
+use Rattle.std.specs.List.{AllByRecursion}
 use Rattle.std.proofs.lemmas.List.{take_rest, take-append-drop, drop-drop, length-map}
 use Rattle.std.proofs.lemmas.Bool.{or_parts, ltb-false, leb-false, not-false, eqb-true}
 use Rattle.std.proofs.lemmas.Bool.Decides.{nat_tests}
@@ -69,7 +69,7 @@ kind_byte_of k low high = grind (arith, nat_tests)
 -- what the test of m calls tells
 pub record CallsPass (n m : ℕ) (bs : List ℕ) : Type 0 where
   pub counted : length (calls_of bs) ≡ m
-  pub placed : All (λ c. c.place < n) (calls_of bs)
+  pub placed : AllByRecursion (λ c. c.place < n) (calls_of bs)
   pub written_again : call_bytes (map raw_call (calls_of bs)) ≡ bs
 
 pub calls_pass : (n at m : ℕ) (bs : List ℕ) → length bs ≡ 2 * m → calls_test n at bs ≡ Ok tt → CallsPass n m bs

@@ -1,6 +1,7 @@
 -- What a record says, and that reading and writing undo each other. Assumes nothing.
+-- AllByRecursion P xs, of the library, says that P holds of each element of xs.
 use Rattle.std.specs.Prelude.{◌≡◌, ℕ, ◌+◌, ◌*◌, ◌<◌, ◌≤◌, List, map, length, Ok, Result}
-use Rattle.std.specs.List.{AllByRecursion as All}
+use Rattle.std.specs.List.{AllByRecursion}
 use Rattle.record.specs.declared.call.BusCall.{BusCall}
 use Rattle.record.specs.declared.call.RawCall.{RawCall}
 use Rattle.record.specs.declared.faults.RecordFault.{RecordFault}
@@ -21,7 +22,7 @@ pub record Sound (bs : List ℕ) : Type 0 where
   pub few_calls : call_count_in bs ≤ 20000
   pub whole : length bs ≡ 16 + 2 * call_count_in bs
   pub counted : length (calls_in bs) ≡ call_count_in bs
-  pub placed : All (λ c. c.place < places_in bs) (calls_in bs)
+  pub placed : AllByRecursion (λ c. c.place < places_in bs) (calls_in bs)
   -- writing what was read gives the record
   pub written_again : encode (places_in bs) (map raw_call (calls_in bs)) ≡ bs
 

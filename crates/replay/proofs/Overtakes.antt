@@ -3,7 +3,7 @@ use Rattle.std.proofs.Common.{◌≡◌, ℕ, zero, suc, ◌+◌, ◌-◌, ◌<�
 use mathlib.Core.List.{reverse_aux}
 use Rattle.std.proofs.lemmas.List.{get_or-set_same, get_or-set_other}
 use Rattle.std.proofs.lemmas.Bool.{cases_Bool, cases_eq, eq-eqb, ne_eqb}
-use Rattle.std.specs.List.{AllByRecursion as All}
+use Rattle.std.specs.List.{AllByRecursion}
 use Rattle.lock.specs.declared.Kind.{Kind}
 use Rattle.lock.specs.declared.Reply.{Reply}
 use Rattle.lock.specs.Pasts.{Event, is_entry}
@@ -213,7 +213,7 @@ module _ (w : Waiting) (e : Event) (later : List Event) (fair : Fair w) (placed 
   step_kept (neither t b is) = subst (λ (x : Waiting). Kept w x e later) (sym is) (neither_kept t b)
 
 abbrev pub Placed : List Event → Type 0
-Placed es = All (λ e. e.call.place < 64) es
+Placed es = AllByRecursion (λ e. e.call.place < 64) es
 
 no_more : (n : ℕ) (o : Option ℕ) → through n o 0 ≡ since n o
 no_more n o = grind arith

@@ -3,7 +3,7 @@ use Rattle.std.proofs.Common.{◌≡◌, ℕ, zero, suc, ◌+◌, ◌*◌, ◌<�
 use Rattle.std.proofs.lemmas.List.{take_all, take_at, length-map}
 use Rattle.std.proofs.lemmas.Option.{slice_get-get_or}
 use Rattle.std.proofs.lemmas.Bool.{le-ltb}
-use Rattle.std.specs.List.{slice_get, AllByRecursion as All}
+use Rattle.std.specs.List.{slice_get, AllByRecursion}
 use Rattle.lock.specs.declared.Call.{Call}
 use Rattle.lock.specs.declared.Reply.{Reply}
 use Rattle.lock.specs.Meaning.{Meaning}
@@ -46,7 +46,7 @@ room es few =
     }
 
 -- the call of a record that has this number
-at_number : {X : Type 0} (P : X → Type 0) (xs : List X) (k : ℕ) (x : X) → All P xs → slice_get xs k ≡ Some x → P x
+at_number : {X : Type 0} (P : X → Type 0) (xs : List X) (k : ℕ) (x : X) → AllByRecursion P xs → slice_get xs k ≡ Some x → P x
 at_number P [] k x h e = absurd (let z : ◌≡◌ {A = ℕ} 0 1 = cc in omega arith)
 at_number P (y ∷ xs) zero x h e = let same : y ≡ x = cc in subst P same h.0
 at_number P (y ∷ xs) (suc k) x h e = at_number P xs k x h.1 e
@@ -57,7 +57,7 @@ take_mapped (d ∷ cs) zero c e = let same : d ≡ c = cc in rw same refl
 take_mapped (d ∷ cs) (suc k) c e = ap (λ (l : List Call). lock_call d ∷ l) (take_mapped cs k c e)
 
 -- a gap within each stretch's limit
-gap_within : (M : ℕ) (ss : List (List Event)) → All (λ stretch. work stretch ≤ M) ss → most_work ss ≤ M
+gap_within : (M : ℕ) (ss : List (List Event)) → AllByRecursion (λ stretch. work stretch ≤ M) ss → most_work ss ≤ M
 gap_within M [] h = omega arith
 gap_within M (s ∷ ss) h = omega (arith, h.0, gap_within M ss h.1)
 
