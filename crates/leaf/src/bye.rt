@@ -1,9 +1,6 @@
-ghost use Rattle.std.specs.Prelude.{◌≡◌, slice_index_or, refl};
-ghost use Rattle.leaf.specs.ByeLines.{bye_meaning, ByeTakes, bye_made, ByeSound, bye, bye_board, NoMore};
-ghost use Rattle.std.proofs.Common.{arith};
-ghost use Rattle.lock.specs.declared.Phase.TheVariants.{Out};
-ghost use Rattle.leaf.specs.BoardKeeps.{keeps_by_board, blank_made};
-ghost use Rattle.leaf.specs.ByeCorrect.{bye_correct};
+ghost use Rattle.std.specs.Prelude.{◌≡◌};
+ghost use Rattle.leaf.specs.ByeLines.{bye_meaning, ByeTakes, bye_made, ByeSound};
+ghost use Rattle.leaf.specs.Laws.ByeCorrect.{bye_keeps};
 
 use lock::{Answer, BID_LIMIT, Lock, Phase, Refusal};
 
@@ -35,9 +32,7 @@ impl Lock for Bye {
 
     ghost sound = { ByeSound };
 
-    ghost keeps = { keeps_by_board bye NoMore bye_correct bye_board
-        (λ b. record { phase = slice_index_or b.boxes 0 Out; bids = b.bids })
-        (λ s. refl) (λ s. bye_made) (λ s. blank_made bye 1 0 (omega arith) (omega arith)) };
+    ghost keeps = { bye_keeps };
 
     fn put_back(&mut self) {
         *self = Bye::new();

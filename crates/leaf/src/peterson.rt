@@ -1,8 +1,6 @@
-ghost use Rattle.std.specs.Prelude.{◌≡◌, refl};
-ghost use Rattle.leaf.specs.PetersonLines.{line_phase, peterson_meaning, PetersonTakes, peterson_made, PetersonSound, peterson, peterson_board, Invariant};
-ghost use Rattle.std.proofs.Common.{arith};
-ghost use Rattle.leaf.specs.BoardKeeps.{keeps_by_board, blank_made};
-ghost use Rattle.leaf.specs.PetersonCorrect.{peterson_correct};
+ghost use Rattle.std.specs.Prelude.{◌≡◌};
+ghost use Rattle.leaf.specs.PetersonLines.{line_phase, peterson_meaning, PetersonTakes, peterson_made, PetersonSound};
+ghost use Rattle.leaf.specs.Laws.PetersonCorrect.{peterson_keeps};
 
 use lock::{Answer, BID_LIMIT, Lock, Phase, Refusal};
 
@@ -74,9 +72,7 @@ impl Lock for Peterson {
 
     ghost sound = { PetersonSound };
 
-    ghost keeps = { keeps_by_board peterson Invariant peterson_correct peterson_board
-        (λ b. record { boxes = b.boxes; registers = b.registers; bids = b.bids })
-        (λ s. refl) (λ s. peterson_made) (λ s. blank_made peterson 2 3 (omega arith) (omega arith)) };
+    ghost keeps = { peterson_keeps };
 
     fn put_back(&mut self) {
         *self = Peterson::new();

@@ -181,8 +181,8 @@ pub trait Lock {
 /// answers derive from the past, at most one place holds, some active place gets on, and no
 /// stretch takes more than M calls that neither wait nor enter.
 pub fn call_on<L: Lock>(lock: &mut L, call: Call) -> Reply
-    ensures outcome { L.Lock.takes lock.old call result lock.new }
-    ensures promises { Promises L.Lock.meaning L.Lock.takes L.Lock.made }
+    ensures outcome { L.takes lock.old call result lock.new }
+    ensures promises { Promises L.meaning L.takes L.made }
 {
     match call.kind {
         Kind::Bid => Reply::of_taken(lock.bid(call.place)),

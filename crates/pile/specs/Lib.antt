@@ -3,11 +3,4 @@ pub mod Forms
 pub mod Joined
 pub mod PileCalls
 pub mod PileMeaning
-pub mod PileKeeps
-pub mod Events
-pub mod Places
-pub mod PileFormed
-pub mod PileMade
-pub mod Registers
-pub mod PileOutcomes
-pub mod PileChanges
+pub mod Laws

@@ -8,7 +8,7 @@ ghost use Rattle.pile.specs.Finding.{side_of, top_place, found};
 ghost use Rattle.pile.specs.PileCalls.{meanings, pile_means, pile_made, SideTakes, AfterSide, AfterTop, PileTakes};
 ghost use Rattle.pile.specs.Forms.{form, nested, PromisesOf};
 ghost use Rattle.pile.specs.Joined.{PileSound};
-ghost use Rattle.pile.specs.PileKeeps.{pile_keeps};
+ghost use Rattle.pile.specs.Laws.PileKeeps.{pile_keeps};
 
 use lock::{Answer, BID_LIMIT, Call, Lock, Phase, Refusal, Reply, call_on};
 
@@ -46,7 +46,7 @@ pub struct Pile<T, L, R> {
 impl<T: Lock, L: Lock, R: Lock> Pile<T, L, R> {
     /// A pile of the three locks, each made anew.
     pub fn new(top: T, left: L, right: R) -> Pile<T, L, R>
-        ensures { result ≡ pile_made T.Lock.made L.Lock.made R.Lock.made (record { top = top; left = left; right = right }) }
+        ensures { result ≡ pile_made T.made L.made R.made (record { top = top; left = left; right = right }) }
     {
         let mut pile = Pile { top, left, right };
         pile.put_back();
@@ -55,8 +55,8 @@ impl<T: Lock, L: Lock, R: Lock> Pile<T, L, R> {
 
     /// The side of a place and its place there, absent where there is no such place.
     pub fn find(&self, place: usize) -> Option<(Side, usize)>
-        ensures value { result ≡ found (meanings T.Lock.meaning L.Lock.meaning R.Lock.meaning self.now) place }
-        ensures within { (d : SideOf) (i : ℕ) → result ≡ Some (d, i) → (i < (side_of d (meanings T.Lock.meaning L.Lock.meaning R.Lock.meaning self.now)).places) × (top_place d < (T.Lock.meaning self.now.top).places) }
+        ensures value { result ≡ found (meanings T.meaning L.meaning R.meaning self.now) place }
+        ensures within { (d : SideOf) (i : ℕ) → result ≡ Some (d, i) → (i < (side_of d (meanings T.meaning L.meaning R.meaning self.now)).places) × (top_place d < (T.meaning self.now.top).places) }
     {
         let left = self.left.places();
         let top = self.top.places();
@@ -71,7 +71,7 @@ impl<T: Lock, L: Lock, R: Lock> Pile<T, L, R> {
 
     // The phase of a place at its side.
     fn side_phase(&self, side: Side, place: usize) -> Option<Phase>
-        ensures { result ≡ phase_answer (side_of side (meanings T.Lock.meaning L.Lock.meaning R.Lock.meaning self.now)) place }
+        ensures { result ≡ phase_answer (side_of side (meanings T.meaning L.meaning R.meaning self.now)) place }
     {
         match side {
             Side::Left => self.left.phase(place),
@@ -80,7 +80,7 @@ impl<T: Lock, L: Lock, R: Lock> Pile<T, L, R> {
     }
 
     fn side_bid(&mut self, side: Side, place: usize) -> Result<(), Refusal>
-        ensures { SideTakes T.Lock.takes L.Lock.takes R.Lock.takes side self.old (bid_by place) (taken_or result) self.new }
+        ensures { SideTakes T.takes L.takes R.takes side self.old (bid_by place) (taken_or result) self.new }
     {
         match side {
             Side::Left => self.left.bid(place),
@@ -89,7 +89,7 @@ impl<T: Lock, L: Lock, R: Lock> Pile<T, L, R> {
     }
 
     fn side_step(&mut self, side: Side, place: usize) -> Result<Answer, Refusal>
-        ensures { SideTakes T.Lock.takes L.Lock.takes R.Lock.takes side self.old (step_by place) (answered_or result) self.new }
+        ensures { SideTakes T.takes L.takes R.takes side self.old (step_by place) (answered_or result) self.new }
     {
         match side {
             Side::Left => self.left.step(place),
@@ -98,7 +98,7 @@ impl<T: Lock, L: Lock, R: Lock> Pile<T, L, R> {
     }
 
     fn side_leave(&mut self, side: Side, place: usize) -> Result<(), Refusal>
-        ensures { SideTakes T.Lock.takes L.Lock.takes R.Lock.takes side self.old (leave_by place) (taken_or result) self.new }
+        ensures { SideTakes T.takes L.takes R.takes side self.old (leave_by place) (taken_or result) self.new }
     {
         match side {
             Side::Left => self.left.leave(place),
@@ -112,7 +112,7 @@ impl<T: Lock, L: Lock, R: Lock> Pile<T, L, R> {
         side: Side,
         returned: Result<Answer, Refusal>,
     ) -> Result<Answer, Refusal>
-        ensures { AfterSide T.Lock.takes L.Lock.takes R.Lock.takes (answered_or returned) side self.old (answered_or result) self.new }
+        ensures { AfterSide T.takes L.takes R.takes (answered_or returned) side self.old (answered_or result) self.new }
     {
         let Ok(Answer::Enters) = returned else {
             return returned;
@@ -130,7 +130,7 @@ impl<T: Lock, L: Lock, R: Lock> Pile<T, L, R> {
         place: usize,
         returned: Result<Answer, Refusal>,
     ) -> Result<Answer, Refusal>
-        ensures { AfterTop T.Lock.takes L.Lock.takes R.Lock.takes (answered_or returned) side place self.old (answered_or result) self.new }
+        ensures { AfterTop T.takes L.takes R.takes (answered_or returned) side place self.old (answered_or result) self.new }
     {
         let Ok(Answer::Out) = returned else {
             return returned;
@@ -142,15 +142,15 @@ impl<T: Lock, L: Lock, R: Lock> Pile<T, L, R> {
 }
 
 impl<T: Lock, L: Lock, R: Lock> Lock for Pile<T, L, R> {
-    ghost meaning = { pile_means T.Lock.meaning L.Lock.meaning R.Lock.meaning };
+    ghost meaning = { pile_means T.meaning L.meaning R.meaning };
 
-    ghost takes = { PileTakes T.Lock.takes L.Lock.takes R.Lock.takes (meanings T.Lock.meaning L.Lock.meaning R.Lock.meaning) };
+    ghost takes = { PileTakes T.takes L.takes R.takes (meanings T.meaning L.meaning R.meaning) };
 
-    ghost made = { pile_made T.Lock.made L.Lock.made R.Lock.made };
+    ghost made = { pile_made T.made L.made R.made };
 
-    ghost sound = { PileSound T.Lock.sound L.Lock.sound R.Lock.sound (meanings T.Lock.meaning L.Lock.meaning R.Lock.meaning) };
+    ghost sound = { PileSound T.sound L.sound R.sound (meanings T.meaning L.meaning R.meaning) };
 
-    ghost keeps = { pile_keeps T.Lock.keeps L.Lock.keeps R.Lock.keeps };
+    ghost keeps = { pile_keeps T.keeps L.keeps R.keeps };
 
     fn put_back(&mut self) {
         self.top.put_back();
@@ -255,8 +255,8 @@ pub fn call_on_nested<Top: Lock, Upper: Lock, First: Lock, Second: Lock, Last: L
     pile: &mut Pile<Top, Pile<Upper, First, Second>, Last>,
     call: Call,
 ) -> Reply
-    ensures outcome { (nested (form Top.Lock.meaning Top.Lock.takes Top.Lock.made) (form Upper.Lock.meaning Upper.Lock.takes Upper.Lock.made) (form First.Lock.meaning First.Lock.takes First.Lock.made) (form Second.Lock.meaning Second.Lock.takes Second.Lock.made) (form Last.Lock.meaning Last.Lock.takes Last.Lock.made)).takes pile.old call result pile.new }
-    ensures promises { PromisesOf (nested (form Top.Lock.meaning Top.Lock.takes Top.Lock.made) (form Upper.Lock.meaning Upper.Lock.takes Upper.Lock.made) (form First.Lock.meaning First.Lock.takes First.Lock.made) (form Second.Lock.meaning Second.Lock.takes Second.Lock.made) (form Last.Lock.meaning Last.Lock.takes Last.Lock.made)) }
+    ensures outcome { (nested (form Top.meaning Top.takes Top.made) (form Upper.meaning Upper.takes Upper.made) (form First.meaning First.takes First.made) (form Second.meaning Second.takes Second.made) (form Last.meaning Last.takes Last.made)).takes pile.old call result pile.new }
+    ensures promises { PromisesOf (nested (form Top.meaning Top.takes Top.made) (form Upper.meaning Upper.takes Upper.made) (form First.meaning First.takes First.made) (form Second.meaning Second.takes Second.made) (form Last.meaning Last.takes Last.made)) }
 {
     call_on(pile, call)
 }

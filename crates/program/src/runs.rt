@@ -38,7 +38,7 @@ fn play<L: Lock>(
     bytes: &[u8],
     log: &mut [Entry],
 ) -> Result<Outcome, AllocError>
-    ensures { IfOk result (λ o. Played L.Lock.meaning L.Lock.takes L.Lock.made lock.old pile bytes.now (length log.old) o) }
+    ensures { IfOk result (λ o. Played L.meaning L.takes L.made lock.old pile bytes.now (length log.old) o) }
 {
     match replay(lock, bytes, log) {
         Ok(summary) => {

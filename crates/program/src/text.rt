@@ -10,7 +10,7 @@ use std::alloc::{AllocError, Global};
 
 /// The line that a refused input gets. Fails only for want of memory.
 pub fn refusal_line<F: Fault>(heap: Global, fault: &F) -> Result<String, AllocError>
-    ensures { IfOk result (λ t. string_bytes t ≡ refusal_text (F.Fault.numbered fault.now) (F.Fault.placed fault.now) (F.Fault.layered fault.now)) }
+    ensures { IfOk result (λ t. string_bytes t ≡ refusal_text (F.numbered fault.now) (F.placed fault.now) (F.layered fault.now)) }
 {
     let number = fault.number();
     let layer = fault.layer().name();
@@ -87,7 +87,7 @@ fn push_line(
 }
 
 fn register_word<L: Lock>(heap: Global, lock: &L, index: usize) -> Result<String, AllocError>
-    ensures { IfOk result (λ t. string_bytes t ≡ optional_text number_text (register_answer (L.Lock.meaning lock.now) index)) }
+    ensures { IfOk result (λ t. string_bytes t ≡ optional_text number_text (register_answer (L.meaning lock.now) index)) }
 {
     match lock.register(index) {
         Some(value) => number_word(heap, value as usize),
@@ -96,7 +96,7 @@ fn register_word<L: Lock>(heap: Global, lock: &L, index: usize) -> Result<String
 }
 
 fn push_registers<L: Lock>(text: &mut String, heap: Global, lock: &L) -> Result<(), AllocError>
-    ensures { OnOk result (string_bytes text.new ≡ string_bytes text.old ++ flat_map number_text (L.Lock.meaning lock.now).registers) }
+    ensures { OnOk result (string_bytes text.new ≡ string_bytes text.old ++ flat_map number_text (L.meaning lock.now).registers) }
 {
     for index in 0..lock.register_count() {
         let word = register_word(heap, lock, index)?;
@@ -106,7 +106,7 @@ fn push_registers<L: Lock>(text: &mut String, heap: Global, lock: &L) -> Result<
 }
 
 fn phase_word<L: Lock>(lock: &L, place: usize) -> &'static str
-    ensures { result.now ≡ optional_text phase_letter (phase_answer (L.Lock.meaning lock.now) place) }
+    ensures { result.now ≡ optional_text phase_letter (phase_answer (L.meaning lock.now) place) }
 {
     match lock.phase(place) {
         Some(phase) => letter_of(phase),
@@ -115,7 +115,7 @@ fn phase_word<L: Lock>(lock: &L, place: usize) -> &'static str
 }
 
 fn push_phases<L: Lock>(text: &mut String, lock: &L) -> Result<(), AllocError>
-    ensures { OnOk result (string_bytes text.new ≡ string_bytes text.old ++ flat_map phase_letter (phases_of (L.Lock.meaning lock.now))) }
+    ensures { OnOk result (string_bytes text.new ≡ string_bytes text.old ++ flat_map phase_letter (phases_of (L.meaning lock.now))) }
 {
     for place in 0..lock.places() {
         text.push_str(phase_word(lock, place))?;
@@ -124,7 +124,7 @@ fn push_phases<L: Lock>(text: &mut String, lock: &L) -> Result<(), AllocError>
 }
 
 fn push_register_line<L: Lock>(text: &mut String, heap: Global, lock: &L) -> Result<(), AllocError>
-    ensures { OnOk result (string_bytes text.new ≡ string_bytes text.old ++ numbers_line (codes "registers") (L.Lock.meaning lock.now).registers) }
+    ensures { OnOk result (string_bytes text.new ≡ string_bytes text.old ++ numbers_line (codes "registers") (L.meaning lock.now).registers) }
 {
     text.push_str("registers")?;
     push_registers(text, heap, lock)?;
@@ -133,7 +133,7 @@ fn push_register_line<L: Lock>(text: &mut String, heap: Global, lock: &L) -> Res
 }
 
 fn push_phase_line<L: Lock>(text: &mut String, lock: &L) -> Result<(), AllocError>
-    ensures { OnOk result (string_bytes text.new ≡ string_bytes text.old ++ phases_line (phases_of (L.Lock.meaning lock.now))) }
+    ensures { OnOk result (string_bytes text.new ≡ string_bytes text.old ++ phases_line (phases_of (L.meaning lock.now))) }
 {
     text.push_str("phases ")?;
     push_phases(text, lock)?;
@@ -165,7 +165,7 @@ pub fn report_lines<L: Lock>(
     entries: &[Entry],
     summary: Summary,
 ) -> Result<String, AllocError>
-    ensures { IfOk result (λ t. string_bytes t ≡ report_text pile (L.Lock.meaning lock.now) entries.now summary) }
+    ensures { IfOk result (λ t. string_bytes t ≡ report_text pile (L.meaning lock.now) entries.now summary) }
 {
     let mut text = head_line(heap, pile, lock.places(), summary.calls)?;
     push_entries(&mut text, heap, entries)?;

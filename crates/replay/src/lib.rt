@@ -40,7 +40,7 @@ fn make_call<L: Lock>(
     log: &mut [Entry],
 ) -> Reply
     requires { (Ready tally.old call) × (tally.old.counts.enters < length log.old) }
-    ensures outcome { L.Lock.takes lock.old call result lock.new }
+    ensures outcome { L.takes lock.old call result lock.new }
     ensures count { tally.new ≡ noted tally.old call result }
     ensures entry { log.new ≡ log_after log.old tally.old.counts.enters number call result }
 {
@@ -57,7 +57,7 @@ fn make_call<L: Lock>(
 
 // The lock as its making left it.
 fn make_anew<L: Lock>(lock: &mut L)
-    ensures { lock.new ≡ L.Lock.made lock.old }
+    ensures { lock.new ≡ L.made lock.old }
 {
     lock.put_back();
 }
@@ -65,7 +65,7 @@ fn make_anew<L: Lock>(lock: &mut L)
 // Puts the lock back and makes each call of a record that has passed its tests.
 fn make_calls<L: Lock>(lock: &mut L, mut reader: Reader<'_>, log: &mut [Entry]) -> Summary
     requires { (AtStart (reading reader)) × ((reading reader).call_count ≤ length log.old) }
-    ensures { Replayed L.Lock.meaning L.Lock.takes L.Lock.made lock.old lock.new (reading reader.entry).bytes log.old log.new result }
+    ensures { Replayed L.meaning L.takes L.made lock.old lock.new (reading reader.entry).bytes log.old log.new result }
 {
     make_anew(lock);
     let mut tally = Tally::none();
@@ -90,8 +90,8 @@ pub fn replay<L: Lock>(
     bytes: &[u8],
     log: &mut [Entry],
 ) -> Result<Summary, ReplayFault>
-    ensures outcome { Outcome L.Lock.meaning L.Lock.takes L.Lock.made lock.old lock.new bytes.now log.old log.new result }
-    ensures promises { Promises L.Lock.meaning L.Lock.takes L.Lock.made }
+    ensures outcome { Outcome L.meaning L.takes L.made lock.old lock.new bytes.now log.old log.new result }
+    ensures promises { Promises L.meaning L.takes L.made }
 {
     let reader = Reader::open(bytes)?;
     if lock.places() != reader.places() {

@@ -1,7 +1,7 @@
 -- Each part answers for its own registers.
 use Rattle.std.proofs.Common.{◌-◌, sym, ◌∙◌, arith}
 use Rattle.pile.specs.PileCalls.{meanings}
-use Rattle.pile.specs.Registers.{none_past_limit, one_of_top, one_of_left, one_of_right}
+use Rattle.pile.specs.Laws.Registers.{none_past_limit, one_of_top, one_of_left, one_of_right}
 use Rattle.pile.proofs.PileLock.register.Goals as goal
 
 pub returns-then-index-ge-REGISTER_LIMIT : goal.returns-then-index-ge-REGISTER_LIMIT

@@ -18,8 +18,8 @@ use Rattle.pile.specs.declared.Side.TheVariants.{Left, Right}
 use Rattle.pile.specs.Finding.{Meanings, side_of, top_place, pile_places, room, found}
 use Rattle.pile.specs.PileMeaning.{own_or_top, box_phase, box_mark, of_box, reserve, pile_meaning}
 use Rattle.pile.specs.Joined.{bids_now, bidders, Joined}
-use Rattle.pile.specs.Places.{other, top_places_apart, room_within, top_used, placed, found_is}
-use Rattle.pile.specs.Events.{Formed, Event, own_chosen, unturned, turned_same, same_size, bids_split, sizes, same_found, turned, joined_after, joined_kept, credit_before, credit_after, same_registers, same_marks}
+use Rattle.pile.specs.Laws.Places.{other, top_places_apart, room_within, top_used, placed, found_is}
+use Rattle.pile.specs.Laws.Events.{Formed, Event, own_chosen, unturned, turned_same, same_size, bids_split, sizes, same_found, turned, joined_after, joined_kept, credit_before, credit_after, same_registers, same_marks}
 
 abbrev pub call : Kind → ℕ → Call
 call k p = record { kind = k; place = p }

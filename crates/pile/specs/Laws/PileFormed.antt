@@ -11,8 +11,8 @@ use Rattle.pile.specs.declared.Side.TheVariants.{Left, Right}
 use Rattle.pile.specs.Finding.{Meanings, side_of, top_place, room, found}
 use Rattle.pile.specs.PileMeaning.{own_or_top, box_phase, box_mark, of_box, shifted, holder_by, reserve, pile_meaning}
 use Rattle.pile.specs.Joined.{Joined}
-use Rattle.pile.specs.Places.{side_with, place_of, all_left, few_all, found_at, found_is, found_none}
-use Rattle.pile.specs.Events.{Formed, own_chosen}
+use Rattle.pile.specs.Laws.Places.{side_with, place_of, all_left, few_all, found_at, found_is, found_none}
+use Rattle.pile.specs.Laws.Events.{Formed, own_chosen}
 
 reserve_within : (f : Phase) (n : ℕ) → reserve f n ≤ n
 reserve_within Out n = omega arith

@@ -21,10 +21,10 @@ use Rattle.pile.specs.Finding.{Meanings, side_of, top_place, found}
 use Rattle.pile.specs.PileMeaning.{pile_bids}
 use Rattle.pile.specs.PileCalls.{meanings, pile_means, pile_made, TopTakes, SideTakes, BidAt, AfterSide, AfterTop, SideSteps, TopSteps, StepAt, LeaveAt, CallAt, CallOf, PileTakes}
 use Rattle.pile.specs.Joined.{PileSound}
-use Rattle.pile.specs.Events.{Formed, pile_sizes}
-use Rattle.pile.specs.PileFormed.{pile_formed}
-use Rattle.pile.specs.PileMade.{made_joined, made_fresh}
-use Rattle.pile.specs.PileOutcomes.{Altered, same_pile, pile_outcome}
+use Rattle.pile.specs.Laws.Events.{Formed, pile_sizes}
+use Rattle.pile.specs.Laws.PileFormed.{pile_formed}
+use Rattle.pile.specs.Laws.PileMade.{made_joined, made_fresh}
+use Rattle.pile.specs.Laws.PileOutcomes.{Altered, same_pile, pile_outcome}
 
 -- a call on a sound lock changes what it means as a lock may
 altered : {X : Type 0} {means : X → Meaning} {takes : X → Call → Reply → X → Type 0} {made : X → X} {sound : X → Type 0} → Keeps means takes made sound → (s t : X) (c : Call) (r : Reply) → sound s → takes s c r t → Altered (means s) c r (means t)

@@ -1,13 +1,14 @@
--- The bye's lines meet the obligations of a lock. Assumes nothing.
-use Rattle.std.specs.Prelude.{◌≡◌, ℕ, ◌+◌, ◌<◌, ◌≤◌, ◌≢◌, refl}
+-- The bye's lines meet the obligations of a lock, so that the bye keeps the meaning of one. Assumes nothing.
+use Rattle.std.specs.Prelude.{◌≡◌, ℕ, ◌+◌, ◌<◌, ◌≤◌, ◌≢◌, slice_index_or, refl}
 use Rattle.std.proofs.Common.{arith}
 use Rattle.lock.specs.declared.Phase.{Phase}
 use Rattle.lock.specs.declared.Phase.TheVariants.{Out, Bidding, Holding, Leaving}
 use Rattle.lock.specs.declared.Answer.TheVariants.{Waits}
-use Rattle.lock.specs.Meaning.{Mark, shut, open_after, Active}
+use Rattle.lock.specs.Meaning.{Mark, shut, open_after, Active, Keeps}
 use Rattle.leaf.specs.Boards.{mark_by, box_at}
-use Rattle.leaf.specs.ByeLines.{bye, bye_acts, bye_left, NoMore}
-use Rattle.leaf.specs.Obligations.{Within, Fitting, Correct}
+use Rattle.leaf.specs.ByeLines.{bye, bye_acts, bye_left, bye_board, bye_meaning, bye_made, ByeTakes, ByeSound, NoMore}
+use Rattle.leaf.specs.Laws.Obligations.{Within, Fitting, Correct}
+use Rattle.leaf.specs.Laws.BoardKeeps.{keeps_by_board, blank_made}
 
 line_fits : (p : ℕ) (f : Phase) → Active f → Fitting bye p f (bye_acts f).answer (bye_acts f).next (bye_acts f).writes
 line_fits p Out active = absurd active
@@ -58,3 +59,9 @@ bye_correct =
 
     limit : (f : Phase) → bye_left f + 0 ≤ 3
     limit f = grind arith
+
+pub bye_keeps : Keeps bye_meaning ByeTakes (λ s. bye_made) ByeSound
+bye_keeps =
+    keeps_by_board bye NoMore bye_correct bye_board
+    (λ b. record { phase = slice_index_or b.boxes 0 Out; bids = b.bids })
+    (λ s. refl) (λ s. bye_made) (λ s. blank_made bye 1 0 (omega arith) (omega arith))

@@ -23,9 +23,9 @@ use Rattle.pile.specs.Finding.{Meanings, side_of, top_place, pile_places, found}
 use Rattle.pile.specs.PileMeaning.{own_or_top, pile_bids, pile_meaning}
 use Rattle.pile.specs.PileCalls.{TopTakes, SideTakes, BidAt, AfterSide, AfterTop, SideSteps, TopSteps, StepAt, LeaveAt, CallAt, CallOf, PileTakes}
 use Rattle.pile.specs.Joined.{Joined}
-use Rattle.pile.specs.Places.{other, each_side, none_found}
-use Rattle.pile.specs.Events.{Formed, same_size, bids_split, pile_sizes}
-use Rattle.pile.specs.PileChanges.{call, pile_within, side_within, top_within, phase_is, phase_below, phase_above, refused_alike, not_refused, side_bidden, same_bids_below, side_kept, side_waited, side_moved, side_gone, same_bids_above, top_left, top_kept, top_waited, top_moved, top_entered, climbed, descended}
+use Rattle.pile.specs.Laws.Places.{other, each_side, none_found}
+use Rattle.pile.specs.Laws.Events.{Formed, same_size, bids_split, pile_sizes}
+use Rattle.pile.specs.Laws.PileChanges.{call, pile_within, side_within, top_within, phase_is, phase_below, phase_above, refused_alike, not_refused, side_bidden, same_bids_below, side_kept, side_waited, side_moved, side_gone, same_bids_above, top_left, top_kept, top_waited, top_moved, top_entered, climbed, descended}
 
 -- a part changes as a call on a lock may change what it means
 abbrev pub Altered : Meaning → Call → Reply → Meaning → Type 0

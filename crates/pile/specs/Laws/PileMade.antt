@@ -11,7 +11,7 @@ use Rattle.pile.specs.declared.Side.TheVariants.{Left, Right}
 use Rattle.pile.specs.Finding.{Meanings, side_of, top_place, found}
 use Rattle.pile.specs.PileMeaning.{own_or_top, box_phase, of_box, pile_meaning}
 use Rattle.pile.specs.Joined.{bids_now, bidders, Joined}
-use Rattle.pile.specs.Registers.{none_past_limit, one_of_top, one_of_left, one_of_right}
+use Rattle.pile.specs.Laws.Registers.{none_past_limit, one_of_top, one_of_left, one_of_right}
 
 module _ (m : Meanings) (top : Fresh m.top) (sides : (d : Side) → Fresh (side_of d m)) where
   nobody_bids : (d : Side) → bidders d m ≡ 0

@@ -1,17 +1,18 @@
--- Peterson's lines meet the obligations of a lock. Assumes nothing.
+-- Peterson's lines meet the obligations of a lock, so that the lock keeps the meaning of one. Assumes nothing.
 use Rattle.std.specs.Prelude.{◌≡◌, ℕ, zero, suc, ◌+◌, ◌-◌, ◌<◌, ◌≤◌, true, false, ◌⊎◌, List, None, Option, ◌==◌, ◌≢◌, nat_eq, slice_index, refl}
 use Rattle.std.proofs.Common.{sym, ap, ◌∙◌, inl, inr, ⊎_elim, arith}
 use Rattle.std.proofs.lemmas.Bool.{cases_Bool, cases_eq, true≢false}
 use Rattle.std.proofs.lemmas.Bool.Decides.{nat_tests}
 use Rattle.lock.specs.declared.Phase.TheVariants.{Out as IsOut, Holding as IsHolding}
 use Rattle.lock.specs.declared.Answer.TheVariants.{Waits}
-use Rattle.lock.specs.Meaning.{shut, open_after, Active}
+use Rattle.lock.specs.Meaning.{shut, open_after, Active, Keeps}
 use Rattle.leaf.specs.declared.peterson.Line.{Line}
 use Rattle.leaf.specs.declared.peterson.Line.TheVariants.{Out, One, Two, Three, Four, Holding, Leaving}
 use Rattle.leaf.specs.declared.peterson.BoxRecord.{BoxRecord}
 use Rattle.leaf.specs.Boards.{Board, Action, value, mark_within, box_at, Blank}
-use Rattle.leaf.specs.PetersonLines.{line_phase, at, reads, acts, left, peterson, flag, contends, line_of, register_of, Rivals, Invariant}
-use Rattle.leaf.specs.Obligations.{stored, Within, Change, Fitting, Correct, acting}
+use Rattle.leaf.specs.PetersonLines.{line_phase, at, reads, acts, left, peterson, peterson_board, peterson_meaning, peterson_made, PetersonTakes, PetersonSound, flag, contends, line_of, register_of, Rivals, Invariant}
+use Rattle.leaf.specs.Laws.Obligations.{stored, Within, Change, Fitting, Correct, acting}
+use Rattle.leaf.specs.Laws.BoardKeeps.{keeps_by_board, blank_made}
 
 abbrev cell : List ℕ → ℕ → ℕ
 cell rs k = slice_index rs k
@@ -201,3 +202,9 @@ peterson_correct =
 
     leave_cost : (l : Line) → line_phase l ≡ IsHolding → left Leaving < left l
     leave_cost l e = grind arith
+
+pub peterson_keeps : Keeps peterson_meaning PetersonTakes (λ s. peterson_made) PetersonSound
+peterson_keeps =
+    keeps_by_board peterson Invariant peterson_correct peterson_board
+    (λ b. record { boxes = b.boxes; registers = b.registers; bids = b.bids })
+    (λ s. refl) (λ s. peterson_made) (λ s. blank_made peterson 2 3 (omega arith) (omega arith))

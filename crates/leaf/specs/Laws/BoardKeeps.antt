@@ -18,8 +18,8 @@ use Rattle.lock.specs.Meaning.{Meaning, Mark, shut, open_after, Active, WellForm
 use Rattle.leaf.specs.Boards.{Board, Algorithm, Outcome, written, mark_by, mark_within, action, box_at, phase_at, meaning_of, accepted, outcome_by, outcome, Tidy, Blank}
 use Rattle.lock.proofs.Totals.{total_changed}
 use Rattle.lock.proofs.Admitted.{Admitted, admitted, out_fits, holding_fits, active_fits}
-use Rattle.leaf.specs.Obligations.{stored, Within, Change, Fitting, Correct, acting}
-use Rattle.leaf.specs.FirstHolding.{first_holds, holds_first}
+use Rattle.leaf.specs.Laws.Obligations.{stored, Within, Change, Fitting, Correct, acting}
+use Rattle.leaf.specs.Laws.FirstHolding.{first_holds, holds_first}
 
 stored_set : (rs : List ℕ) (k j v : ℕ) → j < length rs → slice_index (slice_set rs j v) k ≡ cond (k == j) v (slice_index rs k)
 stored_set rs k j v l =

@@ -12,7 +12,7 @@ use Rattle.pile.specs.declared.Side.TheVariants.{Left, Right}
 use Rattle.pile.specs.Finding.{Meanings, side_of, top_place, room, found}
 use Rattle.pile.specs.PileMeaning.{own_or_top, box_phase, box_mark, of_box, reserve, share, pile_meaning}
 use Rattle.pile.specs.Joined.{bids_now, bidders, Joined}
-use Rattle.pile.specs.Places.{other, each_side, top_places_apart, low_top_place, place_of, room_within, found_is}
+use Rattle.pile.specs.Laws.Places.{other, each_side, top_places_apart, low_top_place, place_of, room_within, found_is}
 
 -- the parts of a pile are well formed
 pub record Formed (m : Meanings) : Type 0 where
