@@ -1,6 +1,6 @@
 -- The common form of the locks that are made of registers: what a call does, and what it means.
 -- Assumes nothing.
-use Rattle.std.specs.Prelude.{◌≡◌, ℕ, zero, suc, ◌+◌, ◌≤◌, cond, List, length, take, Some, None, Option, nat_lt, slice_index, slice_index_or, slice_set}
+use Rattle.std.specs.Prelude.{◌≡◌, ℕ, zero, suc, ◌+◌, ◌≤◌, cond, List, length, take, Some, None, Option, nat_lt, slice_index, slice_index_or, slice_set, Ok, Err}
 use Rattle.lock.specs.declared.Phase.{Phase}
 use Rattle.lock.specs.declared.Phase.TheVariants.{Out, Bidding, Holding, Leaving}
 use Rattle.lock.specs.declared.Answer.{Answer}
@@ -9,8 +9,7 @@ use Rattle.lock.specs.declared.Kind.{Kind}
 use Rattle.lock.specs.declared.Kind.TheVariants.{Bid, Step, Leave}
 use Rattle.lock.specs.declared.Call.{Call}
 use Rattle.lock.specs.declared.Refusal.{Refusal}
-use Rattle.lock.specs.declared.Reply.{Reply}
-use Rattle.lock.specs.declared.Reply.TheVariants.{Taken, Answered, Refused}
+use Rattle.lock.specs.Calls.{Reply}
 use Rattle.lock.specs.Meaning.{Meaning, Mark, shut, open_after, refusal_of}
 pub use Rattle.lock.specs.Totals.{total}
 
@@ -111,23 +110,23 @@ module _ {X : Type 0} (A : Algorithm X) where
   abbrev pub accepted : Kind → ℕ → Board X → Outcome X
   accepted Bid p b =
       record {
-        reply = Taken;
+        reply = Ok None;
         board = record { boxes = slice_set b.boxes p A.bidding; registers = b.registers; bids = b.bids + 1 };
       }
   accepted Step p b =
       let a = action b.registers p (box_at b p) in
       record {
-        reply = Answered a.answer;
+        reply = Ok (Some a.answer);
         board = record { boxes = slice_set b.boxes p a.next; registers = written b.registers a.writes; bids = b.bids };
       }
   accepted Leave p b =
       record {
-        reply = Taken;
+        reply = Ok None;
         board = record { boxes = slice_set b.boxes p A.leaving; registers = b.registers; bids = b.bids };
       }
 
   abbrev pub outcome_by : Option Refusal → Call → Board X → Outcome X
-  outcome_by (Some e) c b = record { reply = Refused e; board = b }
+  outcome_by (Some e) c b = record { reply = Err e; board = b }
   outcome_by None c b = accepted c.kind c.place b
 
   -- what a call returns and leaves

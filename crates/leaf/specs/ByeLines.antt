@@ -4,7 +4,7 @@ use Rattle.lock.specs.declared.Phase.{Phase}
 use Rattle.lock.specs.declared.Phase.TheVariants.{Out, Bidding, Holding, Leaving}
 use Rattle.lock.specs.declared.Answer.TheVariants.{Moves, Enters, Out as Gone}
 use Rattle.lock.specs.declared.Call.{Call}
-use Rattle.lock.specs.declared.Reply.{Reply}
+use Rattle.lock.specs.Calls.{Reply}
 use Rattle.lock.specs.Meaning.{Meaning}
 use Rattle.leaf.specs.declared.bye.Bye.{Bye}
 use Rattle.leaf.specs.Boards.{Board, Action, Algorithm, Tidy, meaning_of, outcome}

@@ -4,7 +4,7 @@ use Rattle.lock.specs.declared.Phase.{Phase}
 use Rattle.lock.specs.declared.Phase.TheVariants.{Out as IsOut, Bidding as IsBidding, Holding as IsHolding, Leaving as IsLeaving}
 use Rattle.lock.specs.declared.Answer.TheVariants.{Waits, Moves, Enters, Out as Gone}
 use Rattle.lock.specs.declared.Call.{Call}
-use Rattle.lock.specs.declared.Reply.{Reply}
+use Rattle.lock.specs.Calls.{Reply}
 use Rattle.lock.specs.Meaning.{Meaning}
 use Rattle.leaf.specs.declared.peterson.Line.{Line}
 use Rattle.leaf.specs.declared.peterson.Line.TheVariants.{Out, One, Two, Three, Four, Holding, Leaving}

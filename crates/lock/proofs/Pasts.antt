@@ -1,5 +1,5 @@
 -- The promises over pasts, for any lock that keeps the meaning. Assumes nothing.
-use Rattle.std.proofs.Common.{◌≡◌, ℕ, pred, ◌+◌, ◌≤◌, Bool, true, false, cond, ◌||◌, eqb, List, [], ◌∷◌, Some, None, Option, sym, refl, ap, ◌∙◌, subst, ⊎_elim, arith}
+use Rattle.std.proofs.Common.{◌≡◌, ℕ, pred, ◌+◌, ◌≤◌, Bool, true, false, cond, ◌||◌, eqb, List, [], ◌∷◌, Some, None, Option, sym, refl, ap, ◌∙◌, subst, ⊎_elim, arith, Ok, Err}
 use Rattle.std.proofs.lemmas.Bool.{eq-eqb, ne_eqb, cases_eq, cond_both, true≢false, cases_Bool}
 use Rattle.std.specs.List.{AllByRecursion}
 use Rattle.lock.specs.declared.Phase.{Phase}
@@ -10,9 +10,8 @@ use Rattle.lock.specs.declared.Kind.{Kind}
 use Rattle.lock.specs.declared.Kind.TheVariants.{Bid, Step, Leave}
 use Rattle.lock.specs.declared.Call.{Call}
 use Rattle.lock.specs.declared.Refusal.{Refusal}
-use Rattle.lock.specs.declared.Reply.{Reply}
-use Rattle.lock.specs.declared.Reply.TheVariants.{Answered, Refused}
-use Rattle.lock.specs.Meaning.{Meaning, Keeps, Changes, Accepted, Stepped, Waited, Turns, SamePhases, SameSize, Active, MarkWaited, open_after, refusal_of}
+use Rattle.lock.specs.Calls.{Reply}
+use Rattle.lock.specs.Meaning.{Meaning, Form, Keeps, Changes, Accepted, Stepped, Waited, Turns, SamePhases, SameSize, Active, MarkWaited, open_after, refusal_of}
 use Rattle.lock.specs.Pasts.{Event, is_wait, is_entry, is_refusal, phase_after, phase_from, waits, work_of, work, onto_first, stretches, Run, Past, Fixed, PhasesDerive, HolderDerives, OneHolder, Progress, Economy, Promises}
 
 -- the phase of place p after a call for place q
@@ -29,13 +28,13 @@ turned m m' q f p t =
 still : (m m' : Meaning) (q p : ℕ) → SamePhases m m' → m'.phase p ≡ cond (eqb p q) (m.phase p) (m.phase p)
 still m m' q p h = cond_both (eqb p q) (m.phase p) (m.phase p) (λ x. m'.phase p ≡ x) (λ _. h p) (λ _. h p)
 
-phase_stepped : (m m' : Meaning) (q : ℕ) (a : Answer) → Stepped m q a m' → (p : ℕ) → m'.phase p ≡ phase_at p q Step (Answered a) (m.phase p)
+phase_stepped : (m m' : Meaning) (q : ℕ) (a : Answer) → Stepped m q a m' → (p : ℕ) → m'.phase p ≡ phase_at p q Step (Ok (Some a)) (m.phase p)
 phase_stepped m m' q Waits h p = still m m' q p h.phases
 phase_stepped m m' q Moves h p = still m m' q p h.phases
 phase_stepped m m' q Enters h p = turned m m' q Holding p h.phases
 phase_stepped m m' q Gone h p = turned m m' q Out p h.phases
 
-phase_refused : (m m' : Meaning) (q : ℕ) (k : Kind) (e : Refusal) → m' ≡ m → (p : ℕ) → m'.phase p ≡ phase_at p q k (Refused e) (m.phase p)
+phase_refused : (m m' : Meaning) (q : ℕ) (k : Kind) (e : Refusal) → m' ≡ m → (p : ℕ) → m'.phase p ≡ phase_at p q k (Err e) (m.phase p)
 phase_refused m m' q Bid e h p = still m m' q p (λ x. ap (λ (n : Meaning). n.phase x) h)
 phase_refused m m' q Step e h p = still m m' q p (λ x. ap (λ (n : Meaning). n.phase x) h)
 phase_refused m m' q Leave e h p = still m m' q p (λ x. ap (λ (n : Meaning). n.phase x) h)
@@ -50,7 +49,7 @@ phase_changed : (m m' : Meaning) (c : Call) (r : Reply) (o : Option Refusal) →
 phase_changed m m' c r None h p = phase_accepted m m' c.kind c.place r h.0 p
 phase_changed m m' c r (Some e) h p = rw h.0 (phase_refused m m' c.place c.kind e h.1 p)
 
-spent_stepped : (m m' : Meaning) (q : ℕ) (a : Answer) → Stepped m q a m' → is_entry (Answered a) ≡ false → work_of (Answered a) + m'.credit ≤ m.credit
+spent_stepped : (m m' : Meaning) (q : ℕ) (a : Answer) → Stepped m q a m' → is_entry (Ok (Some a)) ≡ false → work_of (Ok (Some a)) + m'.credit ≤ m.credit
 spent_stepped m m' q Waits h n = omega (arith, h.credit)
 spent_stepped m m' q Moves h n = omega (arith, h.credit)
 spent_stepped m m' q Enters h n = absurd (true≢false n)
@@ -108,7 +107,7 @@ open_waited m m' p q n d w o =
 abbrev idle : Reply → Bool
 idle r = is_refusal r || is_wait r
 
-open_stepped : (m m' : Meaning) (p q n d : ℕ) (a : Answer) → Stepped m p a m' → idle (Answered a) ≡ true → Open m q n d → Open m' q (cond (eqb q p) (cond (is_wait (Answered a)) 1 0) 0 + n) d
+open_stepped : (m m' : Meaning) (p q n d : ℕ) (a : Answer) → Stepped m p a m' → idle (Ok (Some a)) ≡ true → Open m q n d → Open m' q (cond (eqb q p) (cond (is_wait (Ok (Some a))) 1 0) 0 + n) d
 open_stepped m m' p q n d Waits h i o = open_waited m m' p q n d h o
 open_stepped m m' p q n d Moves h i o = absurd (true≢false (sym i))
 open_stepped m m' p q n d Enters h i o = absurd (true≢false (sym i))
@@ -143,36 +142,36 @@ spared_all : (M c : ℕ) (ss : List (List Event)) → Spared M c ss → AllByRec
 spared_all M c [] k = absurd k
 spared_all M c (s ∷ ss) k = (omega (arith, k.0), k.1)
 
-module _ {L : Type 0} {meaning : L → Meaning} {takes : L → Call → Reply → L → Type 0} {made : L → L} {sound : L → Type 0} (keeps : Keeps meaning takes made sound) where
-  run_sound : (s : L) → sound s → (es : List Event) (t : L) → Run meaning takes made s es t → sound t
+module _ {L : Type 0} {F : Form L} {sound : L → Type 0} (keeps : Keeps F sound) where
+  run_sound : (s : L) → sound s → (es : List Event) (t : L) → Run F s es t → sound t
   run_sound s so [] t run = subst sound (sym run) so
   run_sound s so (e ∷ es) t run = keeps.stays_sound run.0 t e.call e.reply (run_sound s so es run.0 run.1) run.2
 
-  past_sound : (s : L) (es : List Event) (t : L) → Past meaning takes made s es t → sound t
-  past_sound s es t past = run_sound (made s) (keeps.made_sound s) es t past
+  past_sound : (s : L) (es : List Event) (t : L) → Past F s es t → sound t
+  past_sound s es t past = run_sound (F.made s) (keeps.made_sound s) es t past
 
-  past_changes : (s : L) (e : Event) (es : List Event) (t : L) (past : Past meaning takes made s (e ∷ es) t) → Changes (refusal_of (meaning past.0) e.call) (meaning past.0) e.call e.reply (meaning t)
+  past_changes : (s : L) (e : Event) (es : List Event) (t : L) (past : Past F s (e ∷ es) t) → Changes (refusal_of (F.meaning past.0) e.call) (F.meaning past.0) e.call e.reply (F.meaning t)
   past_changes s e es t past = keeps.changes past.0 t e.call e.reply (past_sound s es past.0 past.1) past.2
 
-  fixed : Fixed meaning takes made
-  fixed s [] t past = subst (λ (x : L). SameSize (meaning s) (meaning x)) (sym past) (keeps.made_sizes s)
+  fixed : Fixed F
+  fixed s [] t past = subst (λ (x : L). SameSize (F.meaning s) (F.meaning x)) (sym past) (keeps.made_sizes s)
   fixed s (e ∷ es) t past =
       let before = fixed s es past.0 past.1 in
-      let m = meaning past.0 in
-      sizes_joined (meaning s) m (meaning t) before (same_size m (meaning t) e.call e.reply (refusal_of m e.call) (past_changes s e es t past))
+      let m = F.meaning past.0 in
+      sizes_joined (F.meaning s) m (F.meaning t) before (same_size m (F.meaning t) e.call e.reply (refusal_of m e.call) (past_changes s e es t past))
 
-  phases : (s : L) (es : List Event) (t : L) → Past meaning takes made s es t → (p : ℕ) → (meaning t).phase p ≡ phase_from es p
-  phases s [] t past p = ap (λ (x : L). (meaning x).phase p) past ∙ (keeps.made_fresh s).all_out p
+  phases : (s : L) (es : List Event) (t : L) → Past F s es t → (p : ℕ) → (F.meaning t).phase p ≡ phase_from es p
+  phases s [] t past p = ap (λ (x : L). (F.meaning x).phase p) past ∙ (keeps.made_fresh s).all_out p
   phases s (e ∷ es) t past p =
-      let m = meaning past.0 in
+      let m = F.meaning past.0 in
       let before = phases s es past.0 past.1 p in
-      let here = phase_changed m (meaning t) e.call e.reply (refusal_of m e.call) (past_changes s e es t past) p in
+      let here = phase_changed m (F.meaning t) e.call e.reply (refusal_of m e.call) (past_changes s e es t past) p in
       rw before at here
 
-  phases_derive : PhasesDerive meaning takes made
+  phases_derive : PhasesDerive F
   phases_derive s es t past p = rw ((fixed s es t past).places, phases s es t past p) refl
 
-  holder_derives : HolderDerives meaning takes made
+  holder_derives : HolderDerives F
   holder_derives s es t past p =
       let form = keeps.well_formed t (past_sound s es t past) in
       let is = phases s es t past p in (
@@ -180,36 +179,36 @@ module _ {L : Type 0} {meaning : L → Meaning} {takes : L → Call → Reply �
         λ holds. form.holding_named p (is ∙ holds),
       )
 
-  one_holder : OneHolder meaning takes made
+  one_holder : OneHolder F
   one_holder s es t past p q hp hq =
       let named_p = (holder_derives s es t past p).1 hp in
       let named_q = (holder_derives s es t past q).1 hq in
       cc
 
-  spared : (s : L) (es : List Event) (t : L) → Past meaning takes made s es t → Spared (meaning s).call_limit (meaning t).credit (stretches es)
+  spared : (s : L) (es : List Event) (t : L) → Past F s es t → Spared (F.meaning s).call_limit (F.meaning t).credit (stretches es)
   spared s [] t past = (omega (arith, (keeps.well_formed t (past_sound s [] t past)).within_limit, (fixed s [] t past).call_limit), tt)
   spared s (e ∷ es) t past =
-      let m = meaning past.0 in
+      let m = F.meaning past.0 in
       let before = spared s es past.0 past.1 in
       let changes = past_changes s e es t past in
       let within = (keeps.well_formed t (past_sound s (e ∷ es) t past)).within_limit in
       ⊎_elim
-      (λ (y : is_entry e.reply ≡ true). rw y (spared_entry (meaning s).call_limit m.credit (meaning t).credit (stretches es) (omega (arith, within, (fixed s (e ∷ es) t past).call_limit)) before))
-      (λ (y : is_entry e.reply ≡ false). rw y (spared_other (meaning s).call_limit m.credit (meaning t).credit e (stretches es) (spent m (meaning t) e.call e.reply (refusal_of m e.call) changes y) before))
+      (λ (y : is_entry e.reply ≡ true). rw y (spared_entry (F.meaning s).call_limit m.credit (F.meaning t).credit (stretches es) (omega (arith, within, (fixed s (e ∷ es) t past).call_limit)) before))
+      (λ (y : is_entry e.reply ≡ false). rw y (spared_other (F.meaning s).call_limit m.credit (F.meaning t).credit e (stretches es) (spent m (F.meaning t) e.call e.reply (refusal_of m e.call) changes y) before))
       (cases_Bool (is_entry e.reply))
 
-  economy : Economy meaning takes made
-  economy s es t past = spared_all (meaning s).call_limit (meaning t).credit (stretches es) (spared s es t past)
+  economy : Economy F
+  economy s es t past = spared_all (F.meaning s).call_limit (F.meaning t).credit (stretches es) (spared s es t past)
 
-  run_open : (s : L) (q d : ℕ) → sound s → (meaning s).mark q ≡ open_after d → (next : List Event) (t : L) → Run meaning takes made s next t → AllByRecursion (λ e. idle e.reply ≡ true) next → Open (meaning t) q (waits q next) d
-  run_open s q d so mark [] t run calm = record { left = d; mark = ap (λ (x : L). (meaning x).mark q) run ∙ mark; sum = omega arith }
+  run_open : (s : L) (q d : ℕ) → sound s → (F.meaning s).mark q ≡ open_after d → (next : List Event) (t : L) → Run F s next t → AllByRecursion (λ e. idle e.reply ≡ true) next → Open (F.meaning t) q (waits q next) d
+  run_open s q d so mark [] t run calm = record { left = d; mark = ap (λ (x : L). (F.meaning x).mark q) run ∙ mark; sum = omega arith }
   run_open s q d so mark (e ∷ es) t run calm =
       let before = run_open s q d so mark es run.0 run.1 calm.1 in
-      let m = meaning run.0 in
+      let m = F.meaning run.0 in
       let changes = keeps.changes run.0 t e.call e.reply (run_sound s so es run.0 run.1) run.2 in
-      open_idle m (meaning t) e.call e.reply (refusal_of m e.call) q (waits q es) d changes calm.0 before
+      open_idle m (F.meaning t) e.call e.reply (refusal_of m e.call) q (waits q es) d changes calm.0 before
 
-  progress : Progress meaning takes made
+  progress : Progress F
   progress s es t past free p active next u run calm =
       let so = past_sound s es t past in
       let is = phases s es t past in
@@ -221,7 +220,7 @@ module _ {L : Type 0} {meaning : L → Meaning} {takes : L → Call → Reply �
         omega (arith, opened.sum, form.short_delay found.0 found.1 found.3, (fixed s es t past).wait_limit),
       )
 
-  pub promises : Promises meaning takes made
+  pub promises : Promises F
   promises =
       record {
         fixed = fixed;

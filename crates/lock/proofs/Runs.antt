@@ -1,8 +1,8 @@
 -- Where each call on a lock has one outcome, what calls return and leave can be computed. Assumes nothing.
 use Rattle.std.proofs.Common.{◌≡◌, List, [], ◌∷◌, map, refl, ap, ◌∙◌}
 use Rattle.lock.specs.declared.Call.{Call}
-use Rattle.lock.specs.declared.Reply.{Reply}
-use Rattle.lock.specs.Meaning.{Meaning}
+use Rattle.lock.specs.Calls.{Reply}
+use Rattle.lock.specs.Meaning.{Form}
 use Rattle.lock.specs.Pasts.{Event, Run}
 
 -- what a call returns and leaves
@@ -31,9 +31,9 @@ module _ {S : Type 0} (run : S → Call → Ran S) (s : S) where
   events_by (c ∷ cs) = record { call = c; reply = (run (state_after cs) c).reply } ∷ events_by cs
 
   -- the calls made determine what they returned, and the lock that they leave
-  pub determined : {takes : S → Call → Reply → S → Type 0} → Runs takes run → (meaning : S → Meaning) (made : S → S) (es : List Event) (t : S) → Run meaning takes made s es t → (es ≡ events_by (map (λ e. e.call) es)) × (t ≡ state_after (map (λ e. e.call) es))
-  determined runs meaning made [] t ran = (refl, ran)
-  determined runs meaning made (e ∷ es) t ran =
-      let before = determined runs meaning made es ran.0 ran.1 in
+  pub determined : (F : Form S) → Runs F.takes run → (es : List Event) (t : S) → Run F s es t → (es ≡ events_by (map (λ e. e.call) es)) × (t ≡ state_after (map (λ e. e.call) es))
+  determined F runs [] t ran = (refl, ran)
+  determined F runs (e ∷ es) t ran =
+      let before = determined F runs es ran.0 ran.1 in
       let here = follows runs (state_after (map (λ x. x.call) es)) ran.0 t e.call e.reply before.1 ran.2 in
       ((λ i. record { call = e.call; reply = here.0 i } ∷ before.0 i), here.1)

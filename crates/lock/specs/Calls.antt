@@ -6,10 +6,12 @@ use Rattle.lock.specs.declared.Answer.{Answer}
 use Rattle.lock.specs.declared.Kind.{Kind}
 use Rattle.lock.specs.declared.Kind.TheVariants.{Bid, Step, Leave}
 use Rattle.lock.specs.declared.Call.{Call}
-use Rattle.lock.specs.declared.Reply.{Reply}
-use Rattle.lock.specs.declared.Reply.TheVariants.{Taken, Answered, Refused}
 use Rattle.lock.specs.declared.Refusal.{Refusal}
 use Rattle.lock.specs.declared.Refusal.TheVariants.{NoPlace, WrongPhase, BidsSpent}
+
+-- what a call returned: the answer of an accepted step, none of an accepted bid or leave, or the refusal
+abbrev pub Reply : Type 0
+Reply = Result (Option Answer) Refusal
 
 abbrev pub bid_by : ℕ → Call
 bid_by p = record { kind = Bid; place = p }
@@ -22,13 +24,13 @@ leave_by p = record { kind = Leave; place = p }
 
 -- the reply in what a bid or a leave returns
 abbrev pub taken_or : Result Unit Refusal → Reply
-taken_or (Ok a) = Taken
-taken_or (Err e) = Refused e
+taken_or (Ok a) = Ok None
+taken_or (Err e) = Err e
 
 -- the reply in what a step returns
 abbrev pub answered_or : Result Answer Refusal → Reply
-answered_or (Ok a) = Answered a
-answered_or (Err e) = Refused e
+answered_or (Ok a) = Ok (Some a)
+answered_or (Err e) = Err e
 
 -- whether a call fits the phase of its place
 abbrev pub fits : Kind → Phase → Bool

@@ -1,5 +1,5 @@
 -- What a lock means, and how a call may change that. Assumes nothing.
-use Rattle.std.specs.Prelude.{◌≡◌, ℕ, pred, ◌+◌, ◌<◌, ◌≤◌, cond, List, length, Some, None, Option, ◌≢◌, nat_lt}
+use Rattle.std.specs.Prelude.{◌≡◌, ℕ, pred, ◌+◌, ◌<◌, ◌≤◌, cond, List, length, Some, None, Option, ◌≢◌, nat_lt, Ok, Err}
 use Rattle.std.specs.List.{slice_get}
 use Rattle.lock.specs.declared.Phase.{Phase}
 use Rattle.lock.specs.declared.Phase.TheVariants.{Out, Bidding, Holding, Leaving}
@@ -9,9 +9,7 @@ use Rattle.lock.specs.declared.Kind.{Kind}
 use Rattle.lock.specs.declared.Kind.TheVariants.{Bid, Step, Leave}
 use Rattle.lock.specs.declared.Call.{Call}
 use Rattle.lock.specs.declared.Refusal.{Refusal}
-use Rattle.lock.specs.declared.Reply.{Reply}
-use Rattle.lock.specs.declared.Reply.TheVariants.{Taken, Answered, Refused}
-use Rattle.lock.specs.Calls.{refusal}
+use Rattle.lock.specs.Calls.{Reply, refusal}
 
 -- the mark of a place: shut, or open, with how often it may still wait before it gets on
 pub data Mark : Type 0 where
@@ -113,7 +111,7 @@ Stepped m p Gone m' = GoneOut m p m'
 
 -- an accepted bid or leave gives its place the phase f and takes so many bids
 pub record TurnTaken (m : Meaning) (p : ℕ) (f : Phase) (bids : ℕ) (r : Reply) (m' : Meaning) : Type 0 where
-  pub reply : r ≡ Taken
+  pub reply : r ≡ Ok None
   pub phases : Turns m p f m'
   pub registers : m'.registers ≡ m.registers
   pub credit : m'.credit < m.credit
@@ -121,12 +119,12 @@ pub record TurnTaken (m : Meaning) (p : ℕ) (f : Phase) (bids : ℕ) (r : Reply
 
 abbrev pub Accepted : Meaning → Kind → ℕ → Reply → Meaning → Type 0
 Accepted m Bid p r m' = TurnTaken m p Bidding 1 r m'
-Accepted m Step p r m' = (a : Answer) × (r ≡ Answered a) × Stepped m p a m' × (m'.bids ≡ m.bids)
+Accepted m Step p r m' = (a : Answer) × (r ≡ Ok (Some a)) × Stepped m p a m' × (m'.bids ≡ m.bids)
 Accepted m Leave p r m' = TurnTaken m p Leaving 0 r m'
 
 -- what a call may make of the meaning: it is refused and changes nothing, or accepted
 abbrev pub Changes : Option Refusal → Meaning → Call → Reply → Meaning → Type 0
-Changes (Some e) m c r m' = (r ≡ Refused e) × (m' ≡ m)
+Changes (Some e) m c r m' = (r ≡ Err e) × (m' ≡ m)
 Changes None m c r m' = Accepted m c.kind c.place r m' × SameSize m m'
 
 abbrev pub refusal_of : Meaning → Call → Option Refusal
@@ -138,14 +136,21 @@ pub record Fresh (m : Meaning) : Type 0 where
   pub no_bids : m.bids ≡ 0
   pub registers_zero : (k v : ℕ) → register_answer m k ≡ Some v → v ≡ 0
 
--- What each lock owes. `made s` is the lock s as its making left it, `takes s c r t` says that
--- the call c on s returns r and leaves t, and `sound` is the lock's own invariant.
-pub record Keeps {L : Type 0} (meaning : L → Meaning) (takes : L → Call → Reply → L → Type 0) (made : L → L) (sound : L → Type 0) : Type 0 where
-  pub made_sound : (s : L) → sound (made s)
-  pub made_fresh : (s : L) → Fresh (meaning (made s))
-  pub made_sizes : (s : L) → SameSize (meaning s) (meaning (made s))
-  pub stays_sound : (s t : L) (c : Call) (r : Reply) → sound s → takes s c r t → sound t
-  pub well_formed : (s : L) → sound s → WellFormed (meaning s)
-  pub changes : (s t : L) (c : Call) (r : Reply) → sound s → takes s c r t → Changes (refusal_of (meaning s) c) (meaning s) c r (meaning t)
+-- what is known of a lock: what others may know of it, what its calls do, and how it was made.
+-- `takes s c r t` says that the call c on s returns r and leaves t, and `made s` is the lock s as
+-- its making left it
+pub record Form (L : Type 0) : Type 1 where
+  pub meaning : L → Meaning
+  pub takes : L → Call → Reply → L → Type 0
+  pub made : L → L
+
+-- what each lock owes; `sound` is its own invariant
+pub record Keeps {L : Type 0} (F : Form L) (sound : L → Type 0) : Type 0 where
+  pub made_sound : (s : L) → sound (F.made s)
+  pub made_fresh : (s : L) → Fresh (F.meaning (F.made s))
+  pub made_sizes : (s : L) → SameSize (F.meaning s) (F.meaning (F.made s))
+  pub stays_sound : (s t : L) (c : Call) (r : Reply) → sound s → F.takes s c r t → sound t
+  pub well_formed : (s : L) → sound s → WellFormed (F.meaning s)
+  pub changes : (s t : L) (c : Call) (r : Reply) → sound s → F.takes s c r t → Changes (refusal_of (F.meaning s) c) (F.meaning s) c r (F.meaning t)
   -- a refused call leaves not only the meaning but the lock itself as it was
-  pub untouched : (s t : L) (c : Call) (e : Refusal) → takes s c (Refused e) t → t ≡ s
+  pub untouched : (s t : L) (c : Call) (e : Refusal) → F.takes s c (Err e) t → t ≡ s

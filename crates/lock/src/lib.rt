@@ -1,10 +1,8 @@
 #![tactic(auto)]
 
 ghost use Rattle.std.specs.Prelude.{◌≡◌, ℕ, ◌<◌, ◌≤◌, length, Some};
-ghost use Rattle.lock.specs.declared.Call.{Call as Called};
-ghost use Rattle.lock.specs.declared.Reply.{Reply as Replied};
 ghost use Rattle.lock.specs.Calls.{bid_by, step_by, leave_by, taken_or, answered_or};
-ghost use Rattle.lock.specs.Meaning.{Meaning, Keeps, phase_answer, register_answer};
+ghost use Rattle.lock.specs.Meaning.{Form, Keeps, phase_answer, register_answer};
 ghost use Rattle.lock.specs.Pasts.{Promises};
 ghost use Rattle.lock.specs.Refusals.{refusal_number, refusal_byte, refusal_layer};
 
@@ -14,7 +12,7 @@ use fault::{Fault, Layer};
 pub const BID_LIMIT: u32 = 1_000_000;
 
 /// Where a place stands.
-#[derive(Clone, Copy)]
+#[derive(Clone, Copy, Debug, PartialEq, Eq)]
 pub enum Phase {
     Out,
     Bidding,
@@ -23,7 +21,7 @@ pub enum Phase {
 }
 
 /// What a step answers.
-#[derive(Clone, Copy)]
+#[derive(Clone, Copy, Debug, PartialEq, Eq)]
 pub enum Answer {
     Waits,
     Moves,
@@ -32,7 +30,7 @@ pub enum Answer {
 }
 
 /// Why a lock refuses a call.
-#[derive(Clone, Copy)]
+#[derive(Clone, Copy, Debug, PartialEq, Eq)]
 pub enum Refusal {
     /// The lock has no such place.
     NoPlace,
@@ -67,7 +65,7 @@ impl Fault for Refusal {
 }
 
 /// The three kinds of call.
-#[derive(Clone, Copy)]
+#[derive(Clone, Copy, Debug, PartialEq, Eq)]
 pub enum Kind {
     Bid,
     Step,
@@ -75,104 +73,72 @@ pub enum Kind {
 }
 
 /// A call for one place.
-#[derive(Clone, Copy)]
+#[derive(Clone, Copy, Debug, PartialEq, Eq)]
 pub struct Call {
     pub kind: Kind,
     pub place: usize,
 }
 
-/// What a call returned: an accepted bid or leave is taken, an accepted step is answered.
-#[derive(Clone, Copy)]
-pub enum Reply {
-    Taken,
-    Answered(Answer),
-    Refused(Refusal),
-}
-
-impl Reply {
-    // The reply in what a bid or a leave returns.
-    fn of_taken(returned: Result<(), Refusal>) -> Reply
-        ensures { result ≡ taken_or returned }
-    {
-        match returned {
-            Ok(()) => Reply::Taken,
-            Err(refusal) => Reply::Refused(refusal),
-        }
-    }
-
-    // The reply in what a step returns.
-    fn of_answered(returned: Result<Answer, Refusal>) -> Reply
-        ensures { result ≡ answered_or returned }
-    {
-        match returned {
-            Ok(answer) => Reply::Answered(answer),
-            Err(refusal) => Reply::Refused(refusal),
-        }
-    }
-}
+/// What a call returned: the answer of an accepted step, none of an accepted bid or leave, or why
+/// the call was refused.
+pub type Reply = Result<Option<Answer>, Refusal>;
 
 /// A lock for a fixed number of places. At most one place holds it.
 ///
 /// Every method may be called at any time, for any place. A call that is refused leaves the lock
 /// as it was.
 pub trait Lock {
-    // What others may know of the lock: sizes, phases, holder, bids, registers, credit and marks.
-    ghost meaning: { Self → Meaning };
-
-    // `takes s c r t`: the call c on s returns r and leaves t.
-    ghost takes: { Self → Called → Replied → Self → Type 0 };
-
-    // The lock as its making left it.
-    ghost made: { Self → Self };
+    // What others may know of the lock, what its calls do, and how it was made.
+    ghost form: { Form Self };
 
     // The lock's own invariant, which every past keeps.
     ghost sound: { Self → Type 0 };
 
     /// Makes the lock anew: all places out, no bids taken, each register 0, sizes as they were.
     fn put_back(&mut self)
-        ensures { self.new ≡ made self.old };
+        ensures { self.new ≡ form.made self.old };
 
     /// Takes an idle place into the contest.
     fn bid(&mut self, place: usize) -> Result<(), Refusal>
-        ensures { takes self.old (bid_by place) (taken_or result) self.new };
+        ensures { form.takes self.old (bid_by place) (taken_or result) self.new };
 
     /// Makes one step of a place that bids or leaves, with at most one register access.
     fn step(&mut self, place: usize) -> Result<Answer, Refusal>
-        ensures { takes self.old (step_by place) (answered_or result) self.new };
+        ensures { form.takes self.old (step_by place) (answered_or result) self.new };
 
     /// Has a place that holds the lock begin to leave it.
     fn leave(&mut self, place: usize) -> Result<(), Refusal>
-        ensures { takes self.old (leave_by place) (taken_or result) self.new };
+        ensures { form.takes self.old (leave_by place) (taken_or result) self.new };
 
     /// The phase of a place, absent where there is no such place.
     fn phase(&self, place: usize) -> Option<Phase>
-        ensures { result ≡ phase_answer (meaning self.now) place };
+        ensures { result ≡ phase_answer (form.meaning self.now) place };
 
     /// The place that holds, or nobody.
     fn holder(&self) -> Option<usize>
-        ensures value { result ≡ (meaning self.now).holder }
-        ensures within { (p : ℕ) → result ≡ Some p → p < (meaning self.now).places };
+        ensures value { result ≡ (form.meaning self.now).holder }
+        ensures within { (p : ℕ) → result ≡ Some p → p < (form.meaning self.now).places };
 
     /// How many bids the lock has taken since its making.
     fn bids(&self) -> u32
-        ensures { result ≡ (meaning self.now).bids };
+        ensures { result ≡ (form.meaning self.now).bids };
 
     /// How many places the lock has, 1 to 64.
     fn places(&self) -> usize
-        ensures value { result ≡ (meaning self.now).places }
+        ensures value { result ≡ (form.meaning self.now).places }
         ensures bound { (1 ≤ result) × (result ≤ 64) };
 
     /// How many registers the lock has, 4,096 at most.
     fn register_count(&self) -> usize
-        ensures value { result ≡ length (meaning self.now).registers }
+        ensures value { result ≡ length (form.meaning self.now).registers }
         ensures bound { result ≤ 4096 };
 
     /// What a register holds, absent where there is no such register.
     fn register(&self, index: usize) -> Option<u32>
-        ensures { result ≡ register_answer (meaning self.now) index };
+        ensures { result ≡ register_answer (form.meaning self.now) index };
 
     // How calls may change the meaning: what each lock owes.
-    ghost keeps: { Keeps meaning takes made sound };
+    ghost keeps: { Keeps form sound };
 }
 
 /// Makes one call on any lock.
@@ -180,13 +146,14 @@ pub trait Lock {
 /// Its contract also has the promises that hold of the lock after every past: n, S and M stay, the
 /// answers derive from the past, at most one place holds, some active place gets on, and no
 /// stretch takes more than M calls that neither wait nor enter.
+#[tactic(auto, using(crate::proofs::Pasts::promises))]
 pub fn call_on<L: Lock>(lock: &mut L, call: Call) -> Reply
-    ensures outcome { L.takes lock.old call result lock.new }
-    ensures promises { Promises L.meaning L.takes L.made }
+    ensures outcome { L.form.takes lock.old call result lock.new }
+    ensures promises { Promises L.form }
 {
     match call.kind {
-        Kind::Bid => Reply::of_taken(lock.bid(call.place)),
-        Kind::Step => Reply::of_answered(lock.step(call.place)),
-        Kind::Leave => Reply::of_taken(lock.leave(call.place)),
+        Kind::Bid => lock.bid(call.place).map(|()| None),
+        Kind::Step => lock.step(call.place).map(Some),
+        Kind::Leave => lock.leave(call.place).map(|()| None),
     }
 }

@@ -1,5 +1,5 @@
 -- A pile of locks of which each call has one outcome has one outcome of each call. Assumes nothing.
-use Rattle.std.proofs.Common.{◌≡◌, ℕ, Some, None, Option, ap, ◌∙◌}
+use Rattle.std.proofs.Common.{◌≡◌, ℕ, Some, None, Option, ap, ◌∙◌, Ok, Err}
 use Rattle.lock.specs.declared.Phase.{Phase}
 use Rattle.lock.specs.declared.Phase.TheVariants.{Out, Bidding, Holding, Leaving}
 use Rattle.lock.specs.declared.Answer.TheVariants.{Waits, Moves, Enters, Out as Gone}
@@ -8,8 +8,7 @@ use Rattle.lock.specs.declared.Kind.TheVariants.{Bid, Step, Leave}
 use Rattle.lock.specs.declared.Call.{Call}
 use Rattle.lock.specs.declared.Refusal.{Refusal}
 use Rattle.lock.specs.declared.Refusal.TheVariants.{NoPlace, WrongPhase}
-use Rattle.lock.specs.declared.Reply.{Reply}
-use Rattle.lock.specs.declared.Reply.TheVariants.{Taken, Answered, Refused}
+use Rattle.lock.specs.Calls.{Reply}
 use Rattle.lock.specs.Calls.{bid_by, step_by, leave_by, refusal}
 use Rattle.pile.specs.declared.Side.{Side}
 use Rattle.pile.specs.declared.Side.TheVariants.{Left, Right}
@@ -28,23 +27,23 @@ module _ {T L R : Type 0} (top_run : T → Call → Ran T) (left_run : L → Cal
   on_side Right s c = record { reply = (right_run s.right c).reply; after = record { top = s.top; left = s.left; right = (right_run s.right c).after } }
 
   abbrev then_top : Side → Ran (Pile T L R) → Reply → Ran (Pile T L R)
-  then_top d ran Taken = ran
-  then_top d ran (Answered Waits) = ran
-  then_top d ran (Answered Moves) = ran
-  then_top d ran (Answered Enters) = record { reply = Answered Moves; after = (on_top ran.after (bid_by (top_place d))).after }
-  then_top d ran (Answered Gone) = ran
-  then_top d ran (Refused e) = ran
+  then_top d ran (Ok None) = ran
+  then_top d ran (Ok (Some Waits)) = ran
+  then_top d ran (Ok (Some Moves)) = ran
+  then_top d ran (Ok (Some Enters)) = record { reply = Ok (Some Moves); after = (on_top ran.after (bid_by (top_place d))).after }
+  then_top d ran (Ok (Some Gone)) = ran
+  then_top d ran (Err e) = ran
 
   abbrev then_side : Side → ℕ → Ran (Pile T L R) → Reply → Ran (Pile T L R)
-  then_side d i ran Taken = ran
-  then_side d i ran (Answered Waits) = ran
-  then_side d i ran (Answered Moves) = ran
-  then_side d i ran (Answered Enters) = ran
-  then_side d i ran (Answered Gone) = record { reply = Answered Moves; after = (on_side d ran.after (leave_by i)).after }
-  then_side d i ran (Refused e) = ran
+  then_side d i ran (Ok None) = ran
+  then_side d i ran (Ok (Some Waits)) = ran
+  then_side d i ran (Ok (Some Moves)) = ran
+  then_side d i ran (Ok (Some Enters)) = ran
+  then_side d i ran (Ok (Some Gone)) = record { reply = Ok (Some Moves); after = (on_side d ran.after (leave_by i)).after }
+  then_side d i ran (Err e) = ran
 
   abbrev run_bid : Option Refusal → Side → ℕ → Pile T L R → Ran (Pile T L R)
-  run_bid (Some e) d i s = record { reply = Refused e; after = s }
+  run_bid (Some e) d i s = record { reply = Err e; after = s }
   run_bid None d i s = on_side d s (bid_by i)
 
   abbrev side_steps : Side → ℕ → Pile T L R → Ran (Pile T L R)
@@ -60,10 +59,10 @@ module _ {T L R : Type 0} (top_run : T → Call → Ran T) (left_run : L → Cal
   run_step Leaving d i s = side_steps d i s
 
   abbrev run_leave : Phase → Side → Pile T L R → Ran (Pile T L R)
-  run_leave Out d s = record { reply = Refused WrongPhase; after = s }
-  run_leave Bidding d s = record { reply = Refused WrongPhase; after = s }
+  run_leave Out d s = record { reply = Err WrongPhase; after = s }
+  run_leave Bidding d s = record { reply = Err WrongPhase; after = s }
   run_leave Holding d s = on_top s (leave_by (top_place d))
-  run_leave Leaving d s = record { reply = Refused WrongPhase; after = s }
+  run_leave Leaving d s = record { reply = Err WrongPhase; after = s }
 
   abbrev run_at : Meanings → Kind → Side → ℕ → Pile T L R → Ran (Pile T L R)
   run_at m Bid d i s = run_bid (refusal (side_of d m).places ((side_of d m).phase i) (pile_bids m) (bid_by i)) d i s
@@ -71,7 +70,7 @@ module _ {T L R : Type 0} (top_run : T → Call → Ran T) (left_run : L → Cal
   run_at m Leave d i s = run_leave ((side_of d m).phase i) d s
 
   abbrev run_of : Meanings → Option (Side × ℕ) → Kind → Pile T L R → Ran (Pile T L R)
-  run_of m None k s = record { reply = Refused NoPlace; after = s }
+  run_of m None k s = record { reply = Err NoPlace; after = s }
   run_of m (Some b) k s = run_at m k b.0 b.1 s
 
   abbrev pub pile_run : (Pile T L R → Meanings) → Pile T L R → Call → Ran (Pile T L R)
@@ -95,28 +94,28 @@ module _ {T L R : Type 0} (top_run : T → Call → Ran T) (left_run : L → Cal
     ended s s' r q end = λ j. record { reply = end.0 j; after = end.1 j }
 
     after_side_ran : (q : Reply) (d : Side) (u s' : Pile T L R) (r : Reply) → AfterSide top_takes left_takes right_takes q d u r s' → record { reply = r; after = s' } ≡ then_top d (record { reply = q; after = u }) q
-    after_side_ran Taken d u s' r after = ended u s' r Taken after
-    after_side_ran (Answered Waits) d u s' r after = ended u s' r (Answered Waits) after
-    after_side_ran (Answered Moves) d u s' r after = ended u s' r (Answered Moves) after
-    after_side_ran (Answered Enters) d u s' r after =
+    after_side_ran (Ok None) d u s' r after = ended u s' r (Ok None) after
+    after_side_ran (Ok (Some Waits)) d u s' r after = ended u s' r (Ok (Some Waits)) after
+    after_side_ran (Ok (Some Moves)) d u s' r after = ended u s' r (Ok (Some Moves)) after
+    after_side_ran (Ok (Some Enters)) d u s' r after =
         let bid = top_ran u s' (bid_by (top_place d)) after.1.0 after.1.1 in
         λ j. record { reply = after.0 j; after = (bid j).after }
-    after_side_ran (Answered Gone) d u s' r after = ended u s' r (Answered Gone) after
-    after_side_ran (Refused e) d u s' r after = ended u s' r (Refused e) after
+    after_side_ran (Ok (Some Gone)) d u s' r after = ended u s' r (Ok (Some Gone)) after
+    after_side_ran (Err e) d u s' r after = ended u s' r (Err e) after
 
     after_top_ran : (q : Reply) (d : Side) (i : ℕ) (u s' : Pile T L R) (r : Reply) → AfterTop top_takes left_takes right_takes q d i u r s' → record { reply = r; after = s' } ≡ then_side d i (record { reply = q; after = u }) q
-    after_top_ran Taken d i u s' r after = ended u s' r Taken after
-    after_top_ran (Answered Waits) d i u s' r after = ended u s' r (Answered Waits) after
-    after_top_ran (Answered Moves) d i u s' r after = ended u s' r (Answered Moves) after
-    after_top_ran (Answered Enters) d i u s' r after = ended u s' r (Answered Enters) after
-    after_top_ran (Answered Gone) d i u s' r after =
+    after_top_ran (Ok None) d i u s' r after = ended u s' r (Ok None) after
+    after_top_ran (Ok (Some Waits)) d i u s' r after = ended u s' r (Ok (Some Waits)) after
+    after_top_ran (Ok (Some Moves)) d i u s' r after = ended u s' r (Ok (Some Moves)) after
+    after_top_ran (Ok (Some Enters)) d i u s' r after = ended u s' r (Ok (Some Enters)) after
+    after_top_ran (Ok (Some Gone)) d i u s' r after =
         let leave = side_ran d u s' (leave_by i) after.1.0 after.1.1 in
         λ j. record { reply = after.0 j; after = (leave j).after }
-    after_top_ran (Refused e) d i u s' r after = ended u s' r (Refused e) after
+    after_top_ran (Err e) d i u s' r after = ended u s' r (Err e) after
 
     module _ (s s' : Pile T L R) (r : Reply) (d : Side) (i : ℕ) where
       bid_ran : (o : Option Refusal) → BidAt top_takes left_takes right_takes o d i s r s' → record { reply = r; after = s' } ≡ run_bid o d i s
-      bid_ran (Some e) taken = ended s s' r (Refused e) taken
+      bid_ran (Some e) taken = ended s s' r (Err e) taken
       bid_ran None taken = side_ran d s s' (bid_by i) r taken
 
       step_ran : (f : Phase) → StepAt top_takes left_takes right_takes f d i s r s' → record { reply = r; after = s' } ≡ run_step f d i s
@@ -126,10 +125,10 @@ module _ {T L R : Type 0} (top_run : T → Call → Ran T) (left_run : L → Cal
       step_ran Leaving steps = after_side_ran steps.0 d steps.1 s' r steps.3 ∙ ap (λ (x : Ran (Pile T L R)). then_top d x x.reply) (side_ran d s steps.1 (step_by i) steps.0 steps.2)
 
       leave_ran : (f : Phase) → LeaveAt top_takes left_takes right_takes f d s r s' → record { reply = r; after = s' } ≡ run_leave f d s
-      leave_ran Out refused = ended s s' r (Refused WrongPhase) refused
-      leave_ran Bidding refused = ended s s' r (Refused WrongPhase) refused
+      leave_ran Out refused = ended s s' r (Err WrongPhase) refused
+      leave_ran Bidding refused = ended s s' r (Err WrongPhase) refused
       leave_ran Holding taken = top_ran s s' (leave_by (top_place d)) r taken
-      leave_ran Leaving refused = ended s s' r (Refused WrongPhase) refused
+      leave_ran Leaving refused = ended s s' r (Err WrongPhase) refused
 
       call_ran : (m : Meanings) (k : Kind) → CallAt top_takes left_takes right_takes m k d i s r s' → record { reply = r; after = s' } ≡ run_at m k d i s
       call_ran m Bid taken = bid_ran (refusal (side_of d m).places ((side_of d m).phase i) (pile_bids m) (bid_by i)) taken
@@ -137,7 +136,7 @@ module _ {T L R : Type 0} (top_run : T → Call → Ran T) (left_run : L → Cal
       call_ran m Leave taken = leave_ran ((side_of d m).phase i) taken
 
     found_ran : (s s' : Pile T L R) (r : Reply) (m : Meanings) (k : Kind) (b : Option (Side × ℕ)) → CallOf top_takes left_takes right_takes m b k s r s' → record { reply = r; after = s' } ≡ run_of m b k s
-    found_ran s s' r m k None refused = ended s s' r (Refused NoPlace) refused
+    found_ran s s' r m k None refused = ended s s' r (Err NoPlace) refused
     found_ran s s' r m k (Some b) taken = call_ran s s' r b.0 b.1 m k taken
 
     pub pile_runs : (means : Pile T L R → Meanings) → Runs (PileTakes top_takes left_takes right_takes means) (pile_run means)

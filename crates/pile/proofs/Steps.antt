@@ -5,7 +5,7 @@ use Rattle.lock.specs.declared.Phase.{Phase}
 use Rattle.lock.specs.declared.Phase.TheVariants.{Out, Bidding, Holding, Leaving}
 use Rattle.lock.specs.declared.Kind.TheVariants.{Step}
 use Rattle.lock.specs.declared.Call.{Call}
-use Rattle.lock.specs.declared.Reply.{Reply}
+use Rattle.lock.specs.Calls.{Reply}
 use Rattle.lock.specs.Calls.{step_by}
 use Rattle.lock.specs.Meaning.{Meaning, phase_answer}
 use Rattle.pile.specs.declared.Side.{Side}

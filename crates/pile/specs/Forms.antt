@@ -1,6 +1,6 @@
 -- Piles of any shape as the promises over pasts see them. Assumes nothing.
 use Rattle.lock.specs.declared.Call.{Call}
-use Rattle.lock.specs.declared.Reply.{Reply}
+use Rattle.lock.specs.Calls.{Reply}
 use Rattle.lock.specs.Meaning.{Meaning}
 use Rattle.lock.specs.Pasts.{Promises}
 use Rattle.pile.specs.declared.Pile.{Pile}

@@ -1,5 +1,5 @@
 -- What each call makes of the three parts of a pile, and what it returns. Assumes nothing.
-use Rattle.std.specs.Prelude.{◌≡◌, ℕ, Some, None, Option}
+use Rattle.std.specs.Prelude.{◌≡◌, ℕ, Some, None, Option, Ok, Err}
 use Rattle.lock.specs.declared.Phase.{Phase}
 use Rattle.lock.specs.declared.Phase.TheVariants.{Out, Bidding, Holding, Leaving}
 use Rattle.lock.specs.declared.Answer.TheVariants.{Waits, Moves, Enters, Out as Gone}
@@ -8,8 +8,7 @@ use Rattle.lock.specs.declared.Kind.TheVariants.{Bid, Step, Leave}
 use Rattle.lock.specs.declared.Call.{Call}
 use Rattle.lock.specs.declared.Refusal.{Refusal}
 use Rattle.lock.specs.declared.Refusal.TheVariants.{NoPlace, WrongPhase}
-use Rattle.lock.specs.declared.Reply.{Reply}
-use Rattle.lock.specs.declared.Reply.TheVariants.{Taken, Answered, Refused}
+use Rattle.lock.specs.Calls.{Reply}
 use Rattle.lock.specs.Calls.{bid_by, step_by, leave_by, refusal}
 use Rattle.lock.specs.Meaning.{Meaning}
 use Rattle.pile.specs.declared.Side.{Side}
@@ -31,7 +30,7 @@ pile_made top_made left_made right_made s = record { top = top_made s.top; left 
 
 -- a refused call changes nothing
 abbrev pub Refuses : {S : Type 0} → Refusal → S → Reply → S → Type 0
-Refuses e s r s' = (r ≡ Refused e) × (s' ≡ s)
+Refuses e s r s' = (r ≡ Err e) × (s' ≡ s)
 
 module _ {T L R : Type 0} (top_takes : T → Call → Reply → T → Type 0) (left_takes : L → Call → Reply → L → Type 0) (right_takes : R → Call → Reply → R → Type 0) where
   -- a call on the top alone
@@ -51,22 +50,22 @@ module _ {T L R : Type 0} (top_takes : T → Call → Reply → T → Type 0) (l
   -- after a side's step with the reply q: a box that entered bids at the top, and that is a move;
   -- any other reply is the pile's
   abbrev pub AfterSide : Reply → Side → Pile T L R → Reply → Pile T L R → Type 0
-  AfterSide Taken d s r s' = (r ≡ Taken) × (s' ≡ s)
-  AfterSide (Answered Waits) d s r s' = (r ≡ Answered Waits) × (s' ≡ s)
-  AfterSide (Answered Moves) d s r s' = (r ≡ Answered Moves) × (s' ≡ s)
-  AfterSide (Answered Enters) d s r s' = (r ≡ Answered Moves) × ((q : Reply) × TopTakes s (bid_by (top_place d)) q s')
-  AfterSide (Answered Gone) d s r s' = (r ≡ Answered Gone) × (s' ≡ s)
-  AfterSide (Refused e) d s r s' = (r ≡ Refused e) × (s' ≡ s)
+  AfterSide (Ok None) d s r s' = (r ≡ Ok None) × (s' ≡ s)
+  AfterSide (Ok (Some Waits)) d s r s' = (r ≡ Ok (Some Waits)) × (s' ≡ s)
+  AfterSide (Ok (Some Moves)) d s r s' = (r ≡ Ok (Some Moves)) × (s' ≡ s)
+  AfterSide (Ok (Some Enters)) d s r s' = (r ≡ Ok (Some Moves)) × ((q : Reply) × TopTakes s (bid_by (top_place d)) q s')
+  AfterSide (Ok (Some Gone)) d s r s' = (r ≡ Ok (Some Gone)) × (s' ≡ s)
+  AfterSide (Err e) d s r s' = (r ≡ Err e) × (s' ≡ s)
 
   -- after the top's step with the reply q: a box that is out there leaves its side, and that is a
   -- move; any other reply is the pile's
   abbrev pub AfterTop : Reply → Side → ℕ → Pile T L R → Reply → Pile T L R → Type 0
-  AfterTop Taken d i s r s' = (r ≡ Taken) × (s' ≡ s)
-  AfterTop (Answered Waits) d i s r s' = (r ≡ Answered Waits) × (s' ≡ s)
-  AfterTop (Answered Moves) d i s r s' = (r ≡ Answered Moves) × (s' ≡ s)
-  AfterTop (Answered Enters) d i s r s' = (r ≡ Answered Enters) × (s' ≡ s)
-  AfterTop (Answered Gone) d i s r s' = (r ≡ Answered Moves) × ((q : Reply) × SideTakes d s (leave_by i) q s')
-  AfterTop (Refused e) d i s r s' = (r ≡ Refused e) × (s' ≡ s)
+  AfterTop (Ok None) d i s r s' = (r ≡ Ok None) × (s' ≡ s)
+  AfterTop (Ok (Some Waits)) d i s r s' = (r ≡ Ok (Some Waits)) × (s' ≡ s)
+  AfterTop (Ok (Some Moves)) d i s r s' = (r ≡ Ok (Some Moves)) × (s' ≡ s)
+  AfterTop (Ok (Some Enters)) d i s r s' = (r ≡ Ok (Some Enters)) × (s' ≡ s)
+  AfterTop (Ok (Some Gone)) d i s r s' = (r ≡ Ok (Some Moves)) × ((q : Reply) × SideTakes d s (leave_by i) q s')
+  AfterTop (Err e) d i s r s' = (r ≡ Err e) × (s' ≡ s)
 
   abbrev pub SideSteps : Side → ℕ → Pile T L R → Reply → Pile T L R → Type 0
   SideSteps d i s r s' = (q : Reply) × (u : Pile T L R) × SideTakes d s (step_by i) q u × AfterSide q d u r s'

@@ -1,7 +1,7 @@
 -- What the program makes of an input: a refusal, or the report of a replay. Assumes nothing.
 use Rattle.std.specs.Prelude.{◌≡◌, ℕ, cond, List, [], ◌∷◌, take, Some, None, Ok, Err, string_bytes, Option, ◌==◌}
 use Rattle.lock.specs.declared.Call.{Call}
-use Rattle.lock.specs.declared.Reply.{Reply}
+use Rattle.lock.specs.Calls.{Reply}
 use Rattle.lock.specs.Meaning.{Meaning}
 use Rattle.lock.specs.Pasts.{Event, Past}
 use Rattle.leaf.specs.PetersonLines.{peterson_made}

@@ -1,7 +1,7 @@
 -- The longest stretch after one call more is the gap of the longer past. Assumes nothing.
 use Rattle.std.proofs.Common.{◌≡◌, ℕ, ◌+◌, ◌≤◌, max, true, false, List, [], ◌∷◌, length, refl, ⊎_elim, arith}
 use Rattle.std.proofs.lemmas.Bool.{cases_Bool}
-use Rattle.lock.specs.declared.Reply.{Reply}
+use Rattle.lock.specs.Calls.{Reply}
 use Rattle.lock.specs.Pasts.{Event, is_entry, work_of, work, onto_first, stretches}
 use Rattle.replay.specs.declared.running.Stretch.{Stretch}
 use Rattle.replay.specs.Reports.{gap, most_work}

@@ -5,7 +5,7 @@ use Rattle.std.proofs.lemmas.List.{get_or-set_same, get_or-set_other}
 use Rattle.std.proofs.lemmas.Bool.{cases_Bool, cases_eq, eq-eqb, ne_eqb}
 use Rattle.std.specs.List.{AllByRecursion}
 use Rattle.lock.specs.declared.Kind.{Kind}
-use Rattle.lock.specs.declared.Reply.{Reply}
+use Rattle.lock.specs.Calls.{Reply}
 use Rattle.lock.specs.Pasts.{Event, is_entry}
 use Rattle.replay.specs.declared.running.Waiting.{Waiting}
 use Rattle.replay.specs.Reports.{is_bid_taken, overtaken, most_overtaken, passed}

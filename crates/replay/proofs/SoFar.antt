@@ -5,7 +5,7 @@ use Rattle.std.proofs.lemmas.Option.{slice_get-get_or}
 use Rattle.std.proofs.lemmas.Bool.{le-ltb}
 use Rattle.std.specs.List.{slice_get, AllByRecursion}
 use Rattle.lock.specs.declared.Call.{Call}
-use Rattle.lock.specs.declared.Reply.{Reply}
+use Rattle.lock.specs.Calls.{Reply}
 use Rattle.lock.specs.Meaning.{Meaning}
 use Rattle.lock.specs.Pasts.{Event, Run, Past, Economy, is_entry, work, stretches}
 use Rattle.record.specs.declared.call.BusCall.{BusCall}

@@ -1,44 +1,43 @@
 -- What a replay reports of a past: the log, the counts, gap and passed. Assumes nothing.
-use Rattle.std.specs.Prelude.{ℕ, ◌+◌, max, Bool, true, false, cond, List, [], ◌∷◌, ◌++◌, reverse, length, drop, ◌==◌}
+use Rattle.std.specs.Prelude.{ℕ, ◌+◌, max, Bool, true, false, cond, List, [], ◌∷◌, ◌++◌, reverse, length, drop, ◌==◌, Some, None, Ok, Err}
 use Rattle.lock.specs.declared.Answer.TheVariants.{Waits, Moves, Enters, Out as Gone}
 use Rattle.lock.specs.declared.Kind.{Kind}
 use Rattle.lock.specs.declared.Kind.TheVariants.{Bid, Step, Leave}
-use Rattle.lock.specs.declared.Reply.{Reply}
-use Rattle.lock.specs.declared.Reply.TheVariants.{Taken, Answered, Refused}
+use Rattle.lock.specs.Calls.{Reply}
 use Rattle.lock.specs.Pasts.{Event, is_wait, is_entry, is_refusal, work, stretches}
 use Rattle.replay.specs.declared.report.Entry.{Entry}
 use Rattle.replay.specs.declared.report.Counts.{Counts}
 use Rattle.replay.specs.declared.report.Summary.{Summary}
 
 abbrev pub is_bid_taken : Kind → Reply → Bool
-is_bid_taken Bid Taken = true
-is_bid_taken Bid (Answered a) = false
-is_bid_taken Bid (Refused e) = false
+is_bid_taken Bid (Ok None) = true
+is_bid_taken Bid (Ok (Some a)) = false
+is_bid_taken Bid (Err e) = false
 is_bid_taken Step r = false
 is_bid_taken Leave r = false
 
 abbrev pub is_leave_taken : Kind → Reply → Bool
 is_leave_taken Bid r = false
 is_leave_taken Step r = false
-is_leave_taken Leave Taken = true
-is_leave_taken Leave (Answered a) = false
-is_leave_taken Leave (Refused e) = false
+is_leave_taken Leave (Ok None) = true
+is_leave_taken Leave (Ok (Some a)) = false
+is_leave_taken Leave (Err e) = false
 
 abbrev pub is_move : Reply → Bool
-is_move Taken = false
-is_move (Answered Waits) = false
-is_move (Answered Moves) = true
-is_move (Answered Enters) = false
-is_move (Answered Gone) = false
-is_move (Refused e) = false
+is_move (Ok None) = false
+is_move (Ok (Some Waits)) = false
+is_move (Ok (Some Moves)) = true
+is_move (Ok (Some Enters)) = false
+is_move (Ok (Some Gone)) = false
+is_move (Err e) = false
 
 abbrev pub is_out : Reply → Bool
-is_out Taken = false
-is_out (Answered Waits) = false
-is_out (Answered Moves) = false
-is_out (Answered Enters) = false
-is_out (Answered Gone) = true
-is_out (Refused e) = false
+is_out (Ok None) = false
+is_out (Ok (Some Waits)) = false
+is_out (Ok (Some Moves)) = false
+is_out (Ok (Some Enters)) = false
+is_out (Ok (Some Gone)) = true
+is_out (Err e) = false
 
 -- how many events pass a test
 abbrev pub count : (Event → Bool) → List Event → ℕ

@@ -1,7 +1,7 @@
 -- How a replay keeps its counts, gap and passed from call to call. Assumes nothing.
 use Rattle.std.specs.Prelude.{ℕ, ◌+◌, ◌-◌, ◌<◌, max, Bool, cond, List, replicate, Some, None, fold, Option, slice_index_or, slice_set}
 use Rattle.lock.specs.declared.Kind.{Kind}
-use Rattle.lock.specs.declared.Reply.{Reply}
+use Rattle.lock.specs.Calls.{Reply}
 use Rattle.lock.specs.declared.Call.{Call}
 use Rattle.lock.specs.Pasts.{is_wait, is_entry, is_refusal, work_of}
 use Rattle.replay.specs.declared.report.Counts.{Counts}

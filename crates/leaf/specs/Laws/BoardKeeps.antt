@@ -1,5 +1,5 @@
 -- An algorithm that meets its obligations keeps the meaning of a lock. Assumes nothing.
-use Rattle.std.specs.Prelude.{◌≡◌, ℕ, zero, suc, ◌+◌, ◌<◌, ◌≤◌, Bool, true, false, cond, List, length, take, replicate, Some, None, Option, ◌==◌, ◌≢◌, nat_lt, slice_index, slice_index_or, slice_set, refl}
+use Rattle.std.specs.Prelude.{◌≡◌, ℕ, zero, suc, ◌+◌, ◌<◌, ◌≤◌, Bool, true, false, cond, List, length, take, replicate, Some, None, Option, ◌==◌, ◌≢◌, nat_lt, slice_index, slice_index_or, slice_set, refl, Ok, Err}
 use Rattle.std.proofs.Common.{sym, ap, subst, ◌∙◌, ⊎_elim, length-set, arith}
 use Rattle.std.proofs.lemmas.Bool.{lt-ltb, le-ltb, leb-false, cases_lt, cases_eq, eq-eqb, ne_eqb}
 use Rattle.std.proofs.lemmas.List.{get_or-set_same, get_or-set_other, length-take, get_or-take, length-replicate}
@@ -13,7 +13,6 @@ use Rattle.lock.specs.declared.Kind.{Kind}
 use Rattle.lock.specs.declared.Kind.TheVariants.{Bid, Step, Leave}
 use Rattle.lock.specs.declared.Call.{Call}
 use Rattle.lock.specs.declared.Refusal.{Refusal}
-use Rattle.lock.specs.declared.Reply.TheVariants.{Taken, Refused}
 use Rattle.lock.specs.Meaning.{Meaning, Mark, shut, open_after, Active, WellFormed, SameSize, Turns, SamePhases, MarkWaited, Stepped, Accepted, Changes, Fresh, Keeps, refusal_of}
 use Rattle.leaf.specs.Boards.{Board, Algorithm, Outcome, written, mark_by, mark_within, action, box_at, phase_at, meaning_of, accepted, outcome_by, outcome, Tidy, Blank}
 use Rattle.lock.proofs.Totals.{total_changed}
@@ -156,7 +155,7 @@ module _ {X : Type 0} (A : Algorithm X) (Sound : Board X → Type 0) (correct : 
     change_step p placed active =
         change_made A b p (acting A b p).next (acting A b p).writes b.bids kept.0 placed (correct.within b p kept.1 placed active)
 
-    bid_accepted : (p : ℕ) → p < A.places → m.phase p ≡ Out → Accepted m Bid p Taken (meaning_of A (after Bid p))
+    bid_accepted : (p : ℕ) → p < A.places → m.phase p ≡ Out → Accepted m Bid p (Ok None) (meaning_of A (after Bid p))
     bid_accepted p placed e =
         let was = box_phase p Out placed e in
         let change = change_bid p placed in
@@ -168,7 +167,7 @@ module _ {X : Type 0} (A : Algorithm X) (Sound : Board X → Type 0) (correct : 
           more_bids = refl;
         }
 
-    leave_accepted : (p : ℕ) → p < A.places → m.phase p ≡ Holding → Accepted m Leave p Taken (meaning_of A (after Leave p))
+    leave_accepted : (p : ℕ) → p < A.places → m.phase p ≡ Holding → Accepted m Leave p (Ok None) (meaning_of A (after Leave p))
     leave_accepted p placed e =
         let was = box_phase p Holding placed e in
         let change = change_leave p placed in
@@ -313,12 +312,12 @@ module _ {X : Type 0} (A : Algorithm X) (Sound : Board X → Type 0) (correct : 
       cond_out true f e = e
       cond_out false f e = refl
 
-  refused_same : (k : Kind) (p : ℕ) (b : Board X) (e : Refusal) → (accepted A k p b).reply ≢ Refused e
+  refused_same : (k : Kind) (p : ℕ) (b : Board X) (e : Refusal) → (accepted A k p b).reply ≢ Err e
   refused_same Bid p b e h = let z : ◌≡◌ {A = ℕ} 0 1 = cc in omega arith
   refused_same Step p b e h = let z : ◌≡◌ {A = ℕ} 0 1 = cc in omega arith
   refused_same Leave p b e h = let z : ◌≡◌ {A = ℕ} 0 1 = cc in omega arith
 
-  outcome_untouched : (b : Board X) (c : Call) (e : Refusal) (o : Option Refusal) → (outcome_by A o c b).reply ≡ Refused e → (outcome_by A o c b).board ≡ b
+  outcome_untouched : (b : Board X) (c : Call) (e : Refusal) (o : Option Refusal) → (outcome_by A o c b).reply ≡ Err e → (outcome_by A o c b).board ≡ b
   outcome_untouched b c e (Some f) is = refl
   outcome_untouched b c e None is = absurd (refused_same c.kind c.place b e is)
 

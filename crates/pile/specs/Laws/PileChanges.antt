@@ -9,7 +9,7 @@ use Rattle.lock.specs.declared.Kind.{Kind}
 use Rattle.lock.specs.declared.Kind.TheVariants.{Bid, Leave}
 use Rattle.lock.specs.declared.Call.{Call}
 use Rattle.lock.specs.declared.Refusal.{Refusal}
-use Rattle.lock.specs.declared.Reply.{Reply}
+use Rattle.lock.specs.Calls.{Reply}
 use Rattle.lock.specs.Calls.{bid_by, leave_by, fits, one_too_many, refusal}
 use Rattle.lock.specs.Meaning.{Meaning, WellFormed, SameSize, Turns, SamePhases, MarkWaited, Waited, Moved, Entered, GoneOut, TurnTaken, Changes, refusal_of, shut}
 use Rattle.lock.proofs.Totals.{total_has}

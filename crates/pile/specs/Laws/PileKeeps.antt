@@ -1,5 +1,5 @@
 -- A pile of three locks that keep the meaning of a lock keeps it too. Assumes nothing.
-use Rattle.std.specs.Prelude.{◌≡◌, ℕ, Some, None, Option, ◌≢◌}
+use Rattle.std.specs.Prelude.{◌≡◌, ℕ, Some, None, Option, ◌≢◌, Ok, Err}
 use Rattle.std.proofs.Common.{sym, ap, subst, ◌∙◌, arith}
 use Rattle.lock.specs.declared.Phase.{Phase}
 use Rattle.lock.specs.declared.Phase.TheVariants.{Out, Bidding, Holding, Leaving}
@@ -10,8 +10,7 @@ use Rattle.lock.specs.declared.Kind.TheVariants.{Bid, Step, Leave}
 use Rattle.lock.specs.declared.Call.{Call}
 use Rattle.lock.specs.declared.Refusal.{Refusal}
 use Rattle.lock.specs.declared.Refusal.TheVariants.{NoPlace, WrongPhase}
-use Rattle.lock.specs.declared.Reply.{Reply}
-use Rattle.lock.specs.declared.Reply.TheVariants.{Taken, Answered, Refused}
+use Rattle.lock.specs.Calls.{Reply}
 use Rattle.lock.specs.Calls.{bid_by, step_by, leave_by, refusal}
 use Rattle.lock.specs.Meaning.{Meaning, WellFormed, SameSize, Fresh, Keeps}
 use Rattle.pile.specs.declared.Side.{Side}
@@ -30,10 +29,10 @@ use Rattle.pile.specs.Laws.PileOutcomes.{Altered, same_pile, pile_outcome}
 altered : {X : Type 0} {means : X → Meaning} {takes : X → Call → Reply → X → Type 0} {made : X → X} {sound : X → Type 0} → Keeps means takes made sound → (s t : X) (c : Call) (r : Reply) → sound s → takes s c r t → Altered (means s) c r (means t)
 altered keeps s t c r so taken = (keeps.changes s t c r so taken, keeps.well_formed t (keeps.stays_sound s t c r so taken))
 
-unlike_taken : {e : Refusal} → Refused e ≢ Taken
+unlike_taken : {e : Refusal} → Err e ≢ (Ok None)
 unlike_taken is = let z : ◌≡◌ {A = ℕ} 0 1 = cc in omega arith
 
-unlike_answered : {e : Refusal} {a : Answer} → Refused e ≢ Answered a
+unlike_answered : {e : Refusal} {a : Answer} → Err e ≢ Ok (Some a)
 unlike_answered is = let z : ◌≡◌ {A = ℕ} 0 1 = cc in omega arith
 
 module _
@@ -71,28 +70,28 @@ module _
   ended s s' r q so end = ((end.0, ap means end.1), subst PartsSound (sym end.1) so)
 
   after_side_lifted : (q : Reply) (d : Side) (s s' : Pile T L R) (r : Reply) → PartsSound s → AfterSide top_takes left_takes right_takes q d s r s' → AfterSide Altered Altered Altered q d (means s) r (means s') × PartsSound s'
-  after_side_lifted Taken d s s' r so after = ended s s' r Taken so after
-  after_side_lifted (Answered Waits) d s s' r so after = ended s s' r (Answered Waits) so after
-  after_side_lifted (Answered Moves) d s s' r so after = ended s s' r (Answered Moves) so after
-  after_side_lifted (Answered Enters) d s s' r so after =
+  after_side_lifted (Ok None) d s s' r so after = ended s s' r (Ok None) so after
+  after_side_lifted (Ok (Some Waits)) d s s' r so after = ended s s' r (Ok (Some Waits)) so after
+  after_side_lifted (Ok (Some Moves)) d s s' r so after = ended s s' r (Ok (Some Moves)) so after
+  after_side_lifted (Ok (Some Enters)) d s s' r so after =
       let bid = top_lifted s s' (bid_by (top_place d)) after.1.0 so after.1.1 in
       ((after.0, (after.1.0, bid.0)), bid.1)
-  after_side_lifted (Answered Gone) d s s' r so after = ended s s' r (Answered Gone) so after
-  after_side_lifted (Refused e) d s s' r so after = ended s s' r (Refused e) so after
+  after_side_lifted (Ok (Some Gone)) d s s' r so after = ended s s' r (Ok (Some Gone)) so after
+  after_side_lifted (Err e) d s s' r so after = ended s s' r (Err e) so after
 
   after_top_lifted : (q : Reply) (d : Side) (i : ℕ) (s s' : Pile T L R) (r : Reply) → PartsSound s → AfterTop top_takes left_takes right_takes q d i s r s' → AfterTop Altered Altered Altered q d i (means s) r (means s') × PartsSound s'
-  after_top_lifted Taken d i s s' r so after = ended s s' r Taken so after
-  after_top_lifted (Answered Waits) d i s s' r so after = ended s s' r (Answered Waits) so after
-  after_top_lifted (Answered Moves) d i s s' r so after = ended s s' r (Answered Moves) so after
-  after_top_lifted (Answered Enters) d i s s' r so after = ended s s' r (Answered Enters) so after
-  after_top_lifted (Answered Gone) d i s s' r so after =
+  after_top_lifted (Ok None) d i s s' r so after = ended s s' r (Ok None) so after
+  after_top_lifted (Ok (Some Waits)) d i s s' r so after = ended s s' r (Ok (Some Waits)) so after
+  after_top_lifted (Ok (Some Moves)) d i s s' r so after = ended s s' r (Ok (Some Moves)) so after
+  after_top_lifted (Ok (Some Enters)) d i s s' r so after = ended s s' r (Ok (Some Enters)) so after
+  after_top_lifted (Ok (Some Gone)) d i s s' r so after =
       let leave = side_lifted d s s' (leave_by i) after.1.0 so after.1.1 in
       ((after.0, (after.1.0, leave.0)), leave.1)
-  after_top_lifted (Refused e) d i s s' r so after = ended s s' r (Refused e) so after
+  after_top_lifted (Err e) d i s s' r so after = ended s s' r (Err e) so after
 
   module _ (s s' : Pile T L R) (r : Reply) (so : PartsSound s) (d : Side) (i : ℕ) where
     bid_lifted : (o : Option Refusal) → BidAt top_takes left_takes right_takes o d i s r s' → BidAt Altered Altered Altered o d i (means s) r (means s') × PartsSound s'
-    bid_lifted (Some e) taken = ended s s' r (Refused e) so taken
+    bid_lifted (Some e) taken = ended s s' r (Err e) so taken
     bid_lifted None taken = side_lifted d s s' (bid_by i) r so taken
 
     side_steps_lifted : SideSteps top_takes left_takes right_takes d i s r s' → SideSteps Altered Altered Altered d i (means s) r (means s') × PartsSound s'
@@ -114,10 +113,10 @@ module _
     step_lifted Leaving steps = side_steps_lifted steps
 
     leave_lifted : (f : Phase) → LeaveAt top_takes left_takes right_takes f d s r s' → LeaveAt Altered Altered Altered f d (means s) r (means s') × PartsSound s'
-    leave_lifted Out refused = ended s s' r (Refused WrongPhase) so refused
-    leave_lifted Bidding refused = ended s s' r (Refused WrongPhase) so refused
+    leave_lifted Out refused = ended s s' r (Err WrongPhase) so refused
+    leave_lifted Bidding refused = ended s s' r (Err WrongPhase) so refused
     leave_lifted Holding taken = top_lifted s s' (leave_by (top_place d)) r so taken
-    leave_lifted Leaving refused = ended s s' r (Refused WrongPhase) so refused
+    leave_lifted Leaving refused = ended s s' r (Err WrongPhase) so refused
 
     call_lifted : (k : Kind) → CallAt top_takes left_takes right_takes (means s) k d i s r s' → CallAt Altered Altered Altered (means s) k d i (means s) r (means s') × PartsSound s'
     call_lifted Bid taken = bid_lifted (refusal (side_of d (means s)).places ((side_of d (means s)).phase i) (pile_bids (means s)) (bid_by i)) taken
@@ -125,57 +124,57 @@ module _
     call_lifted Leave taken = leave_lifted ((side_of d (means s)).phase i) taken
 
   lifted : (s s' : Pile T L R) (k : Kind) (r : Reply) → PartsSound s → (b : Option (Side × ℕ)) → CallOf top_takes left_takes right_takes (means s) b k s r s' → CallOf Altered Altered Altered (means s) b k (means s) r (means s') × PartsSound s'
-  lifted s s' k r so None refused = ended s s' r (Refused NoPlace) so refused
+  lifted s s' k r so None refused = ended s s' r (Err NoPlace) so refused
   lifted s s' k r so (Some b) taken = call_lifted s s' r so b.0 b.1 k taken
 
   -- a refused call changes no part
 
-  side_untouched : (d : Side) (s u : Pile T L R) (c : Call) (e : Refusal) → SideTakes top_takes left_takes right_takes d s c (Refused e) u → u ≡ s
+  side_untouched : (d : Side) (s u : Pile T L R) (c : Call) (e : Refusal) → SideTakes top_takes left_takes right_takes d s c (Err e) u → u ≡ s
   side_untouched Left s u c e taken = same_pile s u taken.1 (left_keeps.untouched s.left u.left c e taken.0) taken.2
   side_untouched Right s u c e taken = same_pile s u taken.1 taken.2 (right_keeps.untouched s.right u.right c e taken.0)
 
-  top_untouched : (s u : Pile T L R) (c : Call) (e : Refusal) → TopTakes top_takes left_takes right_takes s c (Refused e) u → u ≡ s
+  top_untouched : (s u : Pile T L R) (c : Call) (e : Refusal) → TopTakes top_takes left_takes right_takes s c (Err e) u → u ≡ s
   top_untouched s u c e taken = same_pile s u (top_keeps.untouched s.top u.top c e taken.0) taken.1 taken.2
 
   module _ (d : Side) (i : ℕ) (s s' : Pile T L R) (e : Refusal) where
-    side_steps_untouched : (u : Pile T L R) (q : Reply) → SideTakes top_takes left_takes right_takes d s (step_by i) q u → AfterSide top_takes left_takes right_takes q d u (Refused e) s' → s' ≡ s
-    side_steps_untouched u Taken taken after = absurd (unlike_taken after.0)
-    side_steps_untouched u (Answered Waits) taken after = absurd (unlike_answered after.0)
-    side_steps_untouched u (Answered Moves) taken after = absurd (unlike_answered after.0)
-    side_steps_untouched u (Answered Enters) taken after = absurd (unlike_answered after.0)
-    side_steps_untouched u (Answered Gone) taken after = absurd (unlike_answered after.0)
-    side_steps_untouched u (Refused b) taken after = after.1 ∙ side_untouched d s u (step_by i) b taken
+    side_steps_untouched : (u : Pile T L R) (q : Reply) → SideTakes top_takes left_takes right_takes d s (step_by i) q u → AfterSide top_takes left_takes right_takes q d u (Err e) s' → s' ≡ s
+    side_steps_untouched u (Ok None) taken after = absurd (unlike_taken after.0)
+    side_steps_untouched u (Ok (Some Waits)) taken after = absurd (unlike_answered after.0)
+    side_steps_untouched u (Ok (Some Moves)) taken after = absurd (unlike_answered after.0)
+    side_steps_untouched u (Ok (Some Enters)) taken after = absurd (unlike_answered after.0)
+    side_steps_untouched u (Ok (Some Gone)) taken after = absurd (unlike_answered after.0)
+    side_steps_untouched u (Err b) taken after = after.1 ∙ side_untouched d s u (step_by i) b taken
 
-    top_steps_untouched : (u : Pile T L R) (q : Reply) → TopTakes top_takes left_takes right_takes s (step_by (top_place d)) q u → AfterTop top_takes left_takes right_takes q d i u (Refused e) s' → s' ≡ s
-    top_steps_untouched u Taken taken after = absurd (unlike_taken after.0)
-    top_steps_untouched u (Answered Waits) taken after = absurd (unlike_answered after.0)
-    top_steps_untouched u (Answered Moves) taken after = absurd (unlike_answered after.0)
-    top_steps_untouched u (Answered Enters) taken after = absurd (unlike_answered after.0)
-    top_steps_untouched u (Answered Gone) taken after = absurd (unlike_answered after.0)
-    top_steps_untouched u (Refused b) taken after = after.1 ∙ top_untouched s u (step_by (top_place d)) b taken
+    top_steps_untouched : (u : Pile T L R) (q : Reply) → TopTakes top_takes left_takes right_takes s (step_by (top_place d)) q u → AfterTop top_takes left_takes right_takes q d i u (Err e) s' → s' ≡ s
+    top_steps_untouched u (Ok None) taken after = absurd (unlike_taken after.0)
+    top_steps_untouched u (Ok (Some Waits)) taken after = absurd (unlike_answered after.0)
+    top_steps_untouched u (Ok (Some Moves)) taken after = absurd (unlike_answered after.0)
+    top_steps_untouched u (Ok (Some Enters)) taken after = absurd (unlike_answered after.0)
+    top_steps_untouched u (Ok (Some Gone)) taken after = absurd (unlike_answered after.0)
+    top_steps_untouched u (Err b) taken after = after.1 ∙ top_untouched s u (step_by (top_place d)) b taken
 
-    bid_untouched : (o : Option Refusal) → BidAt top_takes left_takes right_takes o d i s (Refused e) s' → s' ≡ s
+    bid_untouched : (o : Option Refusal) → BidAt top_takes left_takes right_takes o d i s (Err e) s' → s' ≡ s
     bid_untouched (Some b) refused = refused.1
     bid_untouched None taken = side_untouched d s s' (bid_by i) e taken
 
-    step_untouched : (f : Phase) → StepAt top_takes left_takes right_takes f d i s (Refused e) s' → s' ≡ s
+    step_untouched : (f : Phase) → StepAt top_takes left_takes right_takes f d i s (Err e) s' → s' ≡ s
     step_untouched Out steps = side_steps_untouched steps.1 steps.0 steps.2 steps.3
     step_untouched Bidding steps = side_steps_untouched steps.1 steps.0 steps.2 steps.3
     step_untouched Holding steps = top_steps_untouched steps.1 steps.0 steps.2 steps.3
     step_untouched Leaving steps = side_steps_untouched steps.1 steps.0 steps.2 steps.3
 
-    leave_untouched : (f : Phase) → LeaveAt top_takes left_takes right_takes f d s (Refused e) s' → s' ≡ s
+    leave_untouched : (f : Phase) → LeaveAt top_takes left_takes right_takes f d s (Err e) s' → s' ≡ s
     leave_untouched Out refused = refused.1
     leave_untouched Bidding refused = refused.1
     leave_untouched Holding taken = top_untouched s s' (leave_by (top_place d)) e taken
     leave_untouched Leaving refused = refused.1
 
-    call_untouched : (k : Kind) → CallAt top_takes left_takes right_takes (means s) k d i s (Refused e) s' → s' ≡ s
+    call_untouched : (k : Kind) → CallAt top_takes left_takes right_takes (means s) k d i s (Err e) s' → s' ≡ s
     call_untouched Bid taken = bid_untouched (refusal (side_of d (means s)).places ((side_of d (means s)).phase i) (pile_bids (means s)) (bid_by i)) taken
     call_untouched Step taken = step_untouched ((side_of d (means s)).phase i) taken
     call_untouched Leave taken = leave_untouched ((side_of d (means s)).phase i) taken
 
-  untouched_at : (s s' : Pile T L R) (k : Kind) (e : Refusal) (b : Option (Side × ℕ)) → CallOf top_takes left_takes right_takes (means s) b k s (Refused e) s' → s' ≡ s
+  untouched_at : (s s' : Pile T L R) (k : Kind) (e : Refusal) (b : Option (Side × ℕ)) → CallOf top_takes left_takes right_takes (means s) b k s (Err e) s' → s' ≡ s
   untouched_at s s' k e None refused = refused.1
   untouched_at s s' k e (Some b) taken = call_untouched b.0 b.1 s s' e k taken
 

@@ -1,5 +1,5 @@
 -- A call on a pile whose parts change as locks do changes the pile as a lock. Assumes nothing.
-use Rattle.std.specs.Prelude.{◌≡◌, ℕ, ◌+◌, ◌<◌, false, Some, None, Option, ◌≢◌, refl}
+use Rattle.std.specs.Prelude.{◌≡◌, ℕ, ◌+◌, ◌<◌, false, Some, None, Option, ◌≢◌, refl, Ok, Err}
 use Rattle.std.proofs.Common.{sym, ap, subst, ◌∙◌, arith}
 use Rattle.std.proofs.lemmas.Bool.{lt-leb, le-leb, leb-false}
 use Rattle.lock.specs.declared.Phase.{Phase}
@@ -11,8 +11,7 @@ use Rattle.lock.specs.declared.Kind.TheVariants.{Bid, Step, Leave}
 use Rattle.lock.specs.declared.Call.{Call}
 use Rattle.lock.specs.declared.Refusal.{Refusal}
 use Rattle.lock.specs.declared.Refusal.TheVariants.{NoPlace, WrongPhase}
-use Rattle.lock.specs.declared.Reply.{Reply}
-use Rattle.lock.specs.declared.Reply.TheVariants.{Answered, Refused}
+use Rattle.lock.specs.Calls.{Reply}
 use Rattle.lock.specs.Calls.{bid_by, step_by, leave_by, fits, one_too_many, refusal}
 use Rattle.lock.specs.Meaning.{Meaning, WellFormed, SameSize, Stepped, Changes, refusal_of}
 use Rattle.lock.proofs.Admitted.{admitted, out_fits, holding_fits}
@@ -58,7 +57,7 @@ fits_bid_alike Holding Leaving used = refl
 abbrev Done : Option Refusal → Meanings → Kind → ℕ → Reply → Meanings → Type 0
 Done o m k p r m' = Changes o (pile_meaning m) (call k p) r (pile_meaning m') × Joined m'
 
-refused_done : (m m' : Meanings) (k : Kind) (p : ℕ) (e : Refusal) (r : Reply) → Joined m → r ≡ Refused e → m' ≡ m → Done (Some e) m k p r m'
+refused_done : (m m' : Meanings) (k : Kind) (p : ℕ) (e : Refusal) (r : Reply) → Joined m → r ≡ Err e → m' ≡ m → Done (Some e) m k p r m'
 refused_done m m' k p e r joined reply same = ((reply, ap pile_meaning same), subst Joined (sym same) joined)
 
 module _ (m : Meanings) (formed : Formed m) (joined : Joined m) (d : Side) (i p : ℕ) (there : found m p ≡ Some (d, i)) where
@@ -104,12 +103,12 @@ module _ (m : Meanings) (formed : Formed m) (joined : Joined m) (d : Side) (i p 
       (ap (fits Step) (phase_below m formed joined d i p there below)) refl
 
   module _ (u : Meanings) (top : u.top ≡ m.top) (rest : side_of (other d) u ≡ side_of (other d) m) (formed' : WellFormed (side_of d u)) where
-    side_replied : (r : Reply) (m' : Meanings) (a : Answer) → (side_of d u).bids ≡ (side_of d m).bids → SameSize (side_of d m) (side_of d u) → (r ≡ Answered a) × (m' ≡ u) → Stepped (pile_meaning m) p a (pile_meaning u) → Joined u → Done None m Step p r m'
+    side_replied : (r : Reply) (m' : Meanings) (a : Answer) → (side_of d u).bids ≡ (side_of d m).bids → SameSize (side_of d m) (side_of d u) → (r ≡ Ok (Some a)) × (m' ≡ u) → Stepped (pile_meaning m) p a (pile_meaning u) → Joined u → Done None m Step p r m'
     side_replied r m' a bids size after stepped kept =
         subst (λ (x : Meanings). Done None m Step p r x) (sym after.1)
         (((a, after.0, stepped, same_bids_below m formed joined d i p there u top rest size bids kept), side_sizes_of u size top rest), kept)
 
-    side_answered : (r : Reply) (m' : Meanings) (a : Answer) → Stepped (side_of d m) i a (side_of d u) → (side_of d u).bids ≡ (side_of d m).bids → SameSize (side_of d m) (side_of d u) → AfterSide Altered Altered Altered (Answered a) d u r m' → Done None m Step p r m'
+    side_answered : (r : Reply) (m' : Meanings) (a : Answer) → Stepped (side_of d m) i a (side_of d u) → (side_of d u).bids ≡ (side_of d m).bids → SameSize (side_of d m) (side_of d u) → AfterSide Altered Altered Altered (Ok (Some a)) d u r m' → Done None m Step p r m'
     side_answered r m' Waits waited bids size after =
         side_replied r m' Waits bids size after (side_waited m formed joined d i p there u top rest size bids waited) (side_kept m formed joined d i p there u top rest size bids waited.phases)
     side_answered r m' Moves moved bids size after =
@@ -153,12 +152,12 @@ module _ (m : Meanings) (formed : Formed m) (joined : Joined m) (d : Side) (i p 
       (ap (fits k) (phase_above m formed joined d i p there holds)) (never (pile_bids m) m.top.bids)
 
   module _ (u : Meanings) (sides : (e : Side) → side_of e u ≡ side_of e m) (holds : (side_of d m).phase i ≡ Holding) where
-    top_replied : (r : Reply) (m' : Meanings) (a : Answer) → SameSize m.top u.top → (r ≡ Answered a) × (m' ≡ u) → Stepped (pile_meaning m) p a (pile_meaning u) → Joined u → Done None m Step p r m'
+    top_replied : (r : Reply) (m' : Meanings) (a : Answer) → SameSize m.top u.top → (r ≡ Ok (Some a)) × (m' ≡ u) → Stepped (pile_meaning m) p a (pile_meaning u) → Joined u → Done None m Step p r m'
     top_replied r m' a size after stepped kept =
         subst (λ (x : Meanings). Done None m Step p r x) (sym after.1)
         (((a, after.0, stepped, same_bids_above m formed joined d i p there u sides size holds kept), top_sizes_of u size sides), kept)
 
-    top_answered : (r : Reply) (m' : Meanings) (a : Answer) → Stepped m.top (top_place d) a u.top → u.top.bids ≡ m.top.bids → SameSize m.top u.top → AfterTop Altered Altered Altered (Answered a) d i u r m' → Done None m Step p r m'
+    top_answered : (r : Reply) (m' : Meanings) (a : Answer) → Stepped m.top (top_place d) a u.top → u.top.bids ≡ m.top.bids → SameSize m.top u.top → AfterTop Altered Altered Altered (Ok (Some a)) d i u r m' → Done None m Step p r m'
     top_answered r m' Waits waited bids size after =
         top_replied r m' Waits size after (top_waited m formed joined d i p there u sides size holds bids waited) (top_kept m formed joined d i p there u sides size holds bids waited.phases)
     top_answered r m' Moves moved bids size after =
@@ -219,7 +218,7 @@ module _ (m : Meanings) (formed : Formed m) (joined : Joined m) (d : Side) (i p 
       at_refusal Step r m' (refusal_of m.top (step_by (top_place d))) (above_alike Step (λ b b'. refl) holds)
       (top_done holds steps.0 r steps.1 m' steps.2 steps.3 (refusal_of m.top (step_by (top_place d))) steps.2.0.0)
 
-  wrong_phase : (r : Reply) (m' : Meanings) → ((side_of d m).phase i ≢ Holding) → fits Leave ((side_of d m).phase i) ≡ false → (r ≡ Refused WrongPhase) × (m' ≡ m) → Outcome Leave r m'
+  wrong_phase : (r : Reply) (m' : Meanings) → ((side_of d m).phase i ≢ Holding) → fits Leave ((side_of d m).phase i) ≡ false → (r ≡ Err WrongPhase) × (m' ≡ m) → Outcome Leave r m'
   wrong_phase r m' below unfit refused = at_refusal Leave r m' (Some WrongPhase) (leave_refused below unfit) (refused_done m m' Leave p WrongPhase r joined refused.0 refused.1)
 
   step_outcome : (r : Reply) (m' : Meanings) (f : Phase) → (side_of d m).phase i ≡ f → StepAt Altered Altered Altered f d i m r m' → Outcome Step r m'
