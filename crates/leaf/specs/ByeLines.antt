@@ -5,7 +5,7 @@ use Rattle.lock.specs.declared.Phase.TheVariants.{Out, Bidding, Holding, Leaving
 use Rattle.lock.specs.declared.Answer.TheVariants.{Moves, Enters, Out as Gone}
 use Rattle.lock.specs.declared.Call.{Call}
 use Rattle.lock.specs.Calls.{Reply}
-use Rattle.lock.specs.Meaning.{Meaning}
+use Rattle.lock.specs.Meaning.{Meaning, Form}
 use Rattle.leaf.specs.declared.bye.Bye.{Bye}
 use Rattle.leaf.specs.Boards.{Board, Action, Algorithm, Tidy, meaning_of, outcome}
 
@@ -51,6 +51,9 @@ ByeTakes s c r t = outcome bye c (bye_board s) ≡ record { reply = r; board = b
 
 abbrev pub bye_made : Bye
 bye_made = record { phase = Out; bids = 0 }
+
+abbrev pub bye_form : Form Bye
+bye_form = record { meaning = bye_meaning; takes = ByeTakes; made = λ s. bye_made }
 
 -- the bye needs no invariant beyond what every board keeps
 abbrev pub NoMore : Board Phase → Type 0

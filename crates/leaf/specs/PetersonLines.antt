@@ -5,7 +5,7 @@ use Rattle.lock.specs.declared.Phase.TheVariants.{Out as IsOut, Bidding as IsBid
 use Rattle.lock.specs.declared.Answer.TheVariants.{Waits, Moves, Enters, Out as Gone}
 use Rattle.lock.specs.declared.Call.{Call}
 use Rattle.lock.specs.Calls.{Reply}
-use Rattle.lock.specs.Meaning.{Meaning}
+use Rattle.lock.specs.Meaning.{Meaning, Form}
 use Rattle.leaf.specs.declared.peterson.Line.{Line}
 use Rattle.leaf.specs.declared.peterson.Line.TheVariants.{Out, One, Two, Three, Four, Holding, Leaving}
 use Rattle.leaf.specs.declared.peterson.BoxRecord.{BoxRecord}
@@ -84,6 +84,9 @@ PetersonTakes s c r t = outcome peterson c (peterson_board s) ≡ record { reply
 
 abbrev pub peterson_made : Peterson
 peterson_made = record { boxes = replicate 2 (at Out); registers = replicate 3 0; bids = 0 }
+
+abbrev pub peterson_form : Form Peterson
+peterson_form = record { meaning = peterson_meaning; takes = PetersonTakes; made = λ s. peterson_made }
 
 -- W of a box: 1 from line 1 on until the leaving line
 abbrev pub flag : Line → ℕ

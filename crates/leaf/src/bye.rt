@@ -1,8 +1,8 @@
 ghost use Rattle.std.specs.Prelude.{◌≡◌};
-ghost use Rattle.leaf.specs.ByeLines.{bye_meaning, ByeTakes, bye_made, ByeSound};
+ghost use Rattle.leaf.specs.ByeLines.{bye_made, bye_form, ByeSound};
 ghost use Rattle.leaf.specs.Laws.ByeCorrect.{bye_keeps};
 
-use lock::{Answer, BID_LIMIT, Lock, Phase, Refusal};
+use lock::{Answer, Kind, Lock, Phase, Refusal, admit};
 
 /// The lock of one place: its box enters whenever it bids, with no register.
 #[derive(Drop)]
@@ -24,11 +24,7 @@ impl Bye {
 }
 
 impl Lock for Bye {
-    ghost meaning = { bye_meaning };
-
-    ghost takes = { ByeTakes };
-
-    ghost made = { λ _. bye_made };
+    ghost form = { bye_form };
 
     ghost sound = { ByeSound };
 
@@ -39,15 +35,7 @@ impl Lock for Bye {
     }
 
     fn bid(&mut self, place: usize) -> Result<(), Refusal> {
-        if place >= 1 {
-            return Err(Refusal::NoPlace);
-        }
-        let Phase::Out = self.phase else {
-            return Err(Refusal::WrongPhase);
-        };
-        if self.bids >= BID_LIMIT {
-            return Err(Refusal::BidsSpent);
-        }
+        admit(Kind::Bid, self.phase(place), self.bids)?;
         self.phase = Phase::Bidding;
         self.bids += 1;
         Ok(())
@@ -71,28 +59,17 @@ impl Lock for Bye {
     }
 
     fn leave(&mut self, place: usize) -> Result<(), Refusal> {
-        if place >= 1 {
-            return Err(Refusal::NoPlace);
-        }
-        let Phase::Holding = self.phase else {
-            return Err(Refusal::WrongPhase);
-        };
+        admit(Kind::Leave, self.phase(place), self.bids)?;
         self.phase = Phase::Leaving;
         Ok(())
     }
 
     fn phase(&self, place: usize) -> Option<Phase> {
-        if place >= 1 {
-            return None;
-        }
-        Some(self.phase)
+        (place == 0).then_some(self.phase)
     }
 
     fn holder(&self) -> Option<usize> {
-        match self.phase {
-            Phase::Holding => Some(0),
-            Phase::Out | Phase::Bidding | Phase::Leaving => None,
-        }
+        (self.phase == Phase::Holding).then_some(0)
     }
 
     fn bids(&self) -> u32 {

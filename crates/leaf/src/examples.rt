@@ -1,6 +1,5 @@
 ghost use Rattle.std.specs.Prelude.{◌≡◌, [], ◌∷◌, Some};
 ghost use Rattle.lock.specs.declared.Answer.TheVariants.{Waits, Moves, Enters};
-ghost use Rattle.lock.specs.declared.Reply.TheVariants.{Taken, Answered};
 ghost use Rattle.leaf.specs.PetersonLines.{peterson_meaning};
 
 use super::peterson::Peterson;
@@ -9,7 +8,7 @@ use lock::{Call, Kind, Lock, Reply, call_on};
 
 /// Box 0 of a new Peterson lock bids and steps four times, with nobody else there.
 pub fn lone_peterson_box_moves_moves_waits_enters() -> ([Reply; 5], Peterson)
-    ensures replies { result.0 ≡ Taken ∷ (Answered Moves ∷ (Answered Moves ∷ (Answered Waits ∷ (Answered Enters ∷ [])))) }
+    ensures replies { result.0 ≡ Ok None ∷ (Ok (Some Moves) ∷ (Ok (Some Moves) ∷ (Ok (Some Waits) ∷ (Ok (Some Enters) ∷ [])))) }
     ensures registers { (peterson_meaning result.1).registers ≡ 1 ∷ (0 ∷ (1 ∷ [])) }
 {
     let mut lock = Peterson::new();
@@ -36,10 +35,8 @@ pub fn step_of_an_out_box_is_refused_with_2() -> Option<u8>
     ensures { result ≡ Some 2 }
 {
     let mut lock = Peterson::new();
-    match lock.step(0) {
-        Ok(_) => None,
-        Err(refusal) => Some(refusal.number()),
-    }
+    let refusal = lock.step(0).err()?;
+    Some(refusal.number())
 }
 
 /// A call at place 2 of any Peterson lock.
@@ -47,8 +44,6 @@ pub fn place_2_of_a_peterson_lock_is_refused_with_1(lock: &mut Peterson, kind: K
     ensures number { result ≡ Some 1 }
     ensures same { lock.new ≡ lock.old }
 {
-    match call_on(lock, Call { kind, place: 2 }) {
-        Reply::Taken | Reply::Answered(_) => None,
-        Reply::Refused(refusal) => Some(refusal.number()),
-    }
+    let refusal = call_on(lock, Call { kind, place: 2 }).err()?;
+    Some(refusal.number())
 }

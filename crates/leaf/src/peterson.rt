@@ -1,8 +1,8 @@
 ghost use Rattle.std.specs.Prelude.{◌≡◌};
-ghost use Rattle.leaf.specs.PetersonLines.{line_phase, peterson_meaning, PetersonTakes, peterson_made, PetersonSound};
+ghost use Rattle.leaf.specs.PetersonLines.{line_phase, peterson_made, peterson_form, PetersonSound};
 ghost use Rattle.leaf.specs.Laws.PetersonCorrect.{peterson_keeps};
 
-use lock::{Answer, BID_LIMIT, Lock, Phase, Refusal};
+use lock::{Answer, Kind, Lock, Phase, Refusal, admit};
 
 const PLACES: usize = 2;
 
@@ -12,7 +12,7 @@ const P: usize = 2;
 const REGISTERS: usize = 3;
 
 /// Where a box stands in the algorithm.
-#[derive(Clone, Copy)]
+#[derive(Clone, Copy, Debug, PartialEq, Eq)]
 pub enum Line {
     Out,
     One,
@@ -24,7 +24,7 @@ pub enum Line {
 }
 
 /// What the lock keeps of one box.
-#[derive(Clone, Copy)]
+#[derive(Clone, Copy, Debug, PartialEq, Eq)]
 pub struct BoxRecord {
     line: Line,
 }
@@ -64,11 +64,7 @@ impl Peterson {
 }
 
 impl Lock for Peterson {
-    ghost meaning = { peterson_meaning };
-
-    ghost takes = { PetersonTakes };
-
-    ghost made = { λ _. peterson_made };
+    ghost form = { peterson_form };
 
     ghost sound = { PetersonSound };
 
@@ -79,15 +75,7 @@ impl Lock for Peterson {
     }
 
     fn bid(&mut self, place: usize) -> Result<(), Refusal> {
-        if place >= PLACES {
-            return Err(Refusal::NoPlace);
-        }
-        let Line::Out = self.boxes[place].line else {
-            return Err(Refusal::WrongPhase);
-        };
-        if self.bids >= BID_LIMIT {
-            return Err(Refusal::BidsSpent);
-        }
+        admit(Kind::Bid, self.phase(place), self.bids)?;
         self.boxes[place].line = Line::One;
         self.bids += 1;
         Ok(())
@@ -97,12 +85,13 @@ impl Lock for Peterson {
         if place >= PLACES {
             return Err(Refusal::NoPlace);
         }
-        let read = match self.boxes[place].line {
+        let record = &mut self.boxes[place];
+        let read = match record.line {
             Line::Three => self.registers[P],
             Line::Four => self.registers[1 - place],
             _ => 0,
         };
-        let (next, answer) = match (self.boxes[place].line, read) {
+        let (next, answer) = match (record.line, read) {
             (Line::One, _) => {
                 self.registers[place] = 1;
                 (Line::Two, Answer::Moves)
@@ -121,34 +110,24 @@ impl Lock for Peterson {
             }
             (Line::Out | Line::Holding, _) => return Err(Refusal::WrongPhase),
         };
-        self.boxes[place].line = next;
+        record.line = next;
         Ok(answer)
     }
 
     fn leave(&mut self, place: usize) -> Result<(), Refusal> {
-        if place >= PLACES {
-            return Err(Refusal::NoPlace);
-        }
-        let Line::Holding = self.boxes[place].line else {
-            return Err(Refusal::WrongPhase);
-        };
+        admit(Kind::Leave, self.phase(place), self.bids)?;
         self.boxes[place].line = Line::Leaving;
         Ok(())
     }
 
     fn phase(&self, place: usize) -> Option<Phase> {
-        if place >= PLACES {
-            return None;
-        }
-        Some(self.boxes[place].phase())
+        Some(self.boxes.get(place)?.phase())
     }
 
     fn holder(&self) -> Option<usize> {
-        match (self.boxes[0].line, self.boxes[1].line) {
-            (Line::Holding, _) => Some(0),
-            (_, Line::Holding) => Some(1),
-            _ => None,
-        }
+        self.boxes
+            .iter()
+            .position(|record| record.phase() == Phase::Holding)
     }
 
     fn bids(&self) -> u32 {
@@ -160,14 +139,10 @@ impl Lock for Peterson {
     }
 
     fn register_count(&self) -> usize {
-        let registers: &[u32] = &self.registers;
-        registers.len()
+        REGISTERS
     }
 
     fn register(&self, index: usize) -> Option<u32> {
-        if index >= REGISTERS {
-            return None;
-        }
-        Some(self.registers[index])
+        self.registers.get(index).copied()
     }
 }

@@ -53,6 +53,12 @@ one_too_many Bid b = nat_le 1000000 b
 one_too_many Step b = false
 one_too_many Leave b = false
 
+-- what the tests of a call give, in their order: by the phase of its place, absent where there is no
+-- such place, and the bids taken
+abbrev pub admission : Kind → Option Phase → ℕ → Result Unit Refusal
+admission k None b = Err NoPlace
+admission k (Some f) b = cond (fits k f) (cond (one_too_many k b) (Err BidsSpent) (Ok tt)) (Err WrongPhase)
+
 -- which refusal a call gets, if any: n places, phase f of the call's place, b bids taken
 abbrev pub refusal : ℕ → Phase → ℕ → Call → Option Refusal
 refusal n f b c =

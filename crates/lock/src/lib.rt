@@ -1,7 +1,7 @@
 #![tactic(auto)]
 
 ghost use Rattle.std.specs.Prelude.{◌≡◌, ℕ, ◌<◌, ◌≤◌, length, Some};
-ghost use Rattle.lock.specs.Calls.{bid_by, step_by, leave_by, taken_or, answered_or};
+ghost use Rattle.lock.specs.Calls.{admission, bid_by, step_by, leave_by, taken_or, answered_or};
 ghost use Rattle.lock.specs.Meaning.{Form, Keeps, phase_answer, register_answer};
 ghost use Rattle.lock.specs.Pasts.{Promises};
 ghost use Rattle.lock.specs.Refusals.{refusal_number, refusal_byte, refusal_layer};
@@ -82,6 +82,26 @@ pub struct Call {
 /// What a call returned: the answer of an accepted step, none of an accepted bid or leave, or why
 /// the call was refused.
 pub type Reply = Result<Option<Answer>, Refusal>;
+
+/// Tests a call by the phase of its place, absent where there is no such place, and the bids taken:
+/// first that the place exists, then that the call fits its phase, then that a bid is not one too
+/// many.
+pub fn admit(kind: Kind, phase: Option<Phase>, bids: u32) -> Result<(), Refusal>
+    ensures { result ≡ admission kind phase bids }
+{
+    let fits = match phase.ok_or(Refusal::NoPlace)? {
+        Phase::Out => kind == Kind::Bid,
+        Phase::Holding => kind == Kind::Leave,
+        Phase::Bidding | Phase::Leaving => kind == Kind::Step,
+    };
+    if !fits {
+        return Err(Refusal::WrongPhase);
+    }
+    if kind == Kind::Bid && bids >= BID_LIMIT {
+        return Err(Refusal::BidsSpent);
+    }
+    Ok(())
+}
 
 /// A lock for a fixed number of places. At most one place holds it.
 ///

@@ -324,7 +324,7 @@ module _ {X : Type 0} (A : Algorithm X) (Sound : Board X → Type 0) (correct : 
   -- A lock whose whole state is a board of the algorithm keeps the meaning. `from` makes the lock
   -- of a board, and `made` is the lock as its making leaves it.
   module _ {L : Type 0} (board : L → Board X) (from : Board X → L) (whole : (s : L) → from (board s) ≡ s) (made : L → L) (blank : (s : L) → Blank A (board (made s))) where
-    pub keeps_by_board : Keeps (λ s. meaning_of A (board s)) (λ s c r t. outcome A c (board s) ≡ record { reply = r; board = board t }) made (λ s. Kept (board s))
+    pub keeps_by_board : Keeps (record { meaning = λ s. meaning_of A (board s); takes = λ s c r t. outcome A c (board s) ≡ record { reply = r; board = board t }; made = made }) (λ s. Kept (board s))
     keeps_by_board =
         record {
           made_sound = λ s. blank_kept (board (made s)) (blank s);

@@ -6,7 +6,7 @@ use Rattle.lock.specs.declared.Phase.TheVariants.{Out, Bidding, Holding, Leaving
 use Rattle.lock.specs.declared.Answer.TheVariants.{Waits}
 use Rattle.lock.specs.Meaning.{Mark, shut, open_after, Active, Keeps}
 use Rattle.leaf.specs.Boards.{mark_by, box_at}
-use Rattle.leaf.specs.ByeLines.{bye, bye_acts, bye_left, bye_board, bye_meaning, bye_made, ByeTakes, ByeSound, NoMore}
+use Rattle.leaf.specs.ByeLines.{bye, bye_acts, bye_left, bye_board, bye_form, bye_made, ByeSound, NoMore}
 use Rattle.leaf.specs.Laws.Obligations.{Within, Fitting, Correct}
 use Rattle.leaf.specs.Laws.BoardKeeps.{keeps_by_board, blank_made}
 
@@ -60,7 +60,7 @@ bye_correct =
     limit : (f : Phase) → bye_left f + 0 ≤ 3
     limit f = grind arith
 
-pub bye_keeps : Keeps bye_meaning ByeTakes (λ s. bye_made) ByeSound
+pub bye_keeps : Keeps bye_form ByeSound
 bye_keeps =
     keeps_by_board bye NoMore bye_correct bye_board
     (λ b. record { phase = slice_index_or b.boxes 0 Out; bids = b.bids })

@@ -10,7 +10,7 @@ use Rattle.leaf.specs.declared.peterson.Line.{Line}
 use Rattle.leaf.specs.declared.peterson.Line.TheVariants.{Out, One, Two, Three, Four, Holding, Leaving}
 use Rattle.leaf.specs.declared.peterson.BoxRecord.{BoxRecord}
 use Rattle.leaf.specs.Boards.{Board, Action, value, mark_within, box_at, Blank}
-use Rattle.leaf.specs.PetersonLines.{line_phase, at, reads, acts, left, peterson, peterson_board, peterson_meaning, peterson_made, PetersonTakes, PetersonSound, flag, contends, line_of, register_of, Rivals, Invariant}
+use Rattle.leaf.specs.PetersonLines.{line_phase, at, reads, acts, left, peterson, peterson_board, peterson_made, peterson_form, PetersonSound, flag, contends, line_of, register_of, Rivals, Invariant}
 use Rattle.leaf.specs.Laws.Obligations.{stored, Within, Change, Fitting, Correct, acting}
 use Rattle.leaf.specs.Laws.BoardKeeps.{keeps_by_board, blank_made}
 
@@ -203,7 +203,7 @@ peterson_correct =
     leave_cost : (l : Line) → line_phase l ≡ IsHolding → left Leaving < left l
     leave_cost l e = grind arith
 
-pub peterson_keeps : Keeps peterson_meaning PetersonTakes (λ s. peterson_made) PetersonSound
+pub peterson_keeps : Keeps peterson_form PetersonSound
 peterson_keeps =
     keeps_by_board peterson Invariant peterson_correct peterson_board
     (λ b. record { boxes = b.boxes; registers = b.registers; bids = b.bids })
