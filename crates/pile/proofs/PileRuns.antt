@@ -14,8 +14,9 @@ use Rattle.pile.specs.declared.Side.{Side}
 use Rattle.pile.specs.declared.Side.TheVariants.{Left, Right}
 use Rattle.pile.specs.declared.Pile.{Pile}
 use Rattle.pile.specs.Finding.{Meanings, side_of, top_place, found}
+use Rattle.lock.specs.Meaning.{Form}
 use Rattle.pile.specs.PileMeaning.{pile_bids}
-use Rattle.pile.specs.PileCalls.{TopTakes, SideTakes, BidAt, AfterSide, AfterTop, StepAt, LeaveAt, CallAt, CallOf, PileTakes}
+use Rattle.pile.specs.PileCalls.{meanings, TopTakes, SideTakes, BidAt, AfterSide, AfterTop, StepAt, LeaveAt, CallAt, CallOf, PileTakes}
 use Rattle.lock.proofs.Runs.{Ran, Runs}
 
 module _ {T L R : Type 0} (top_run : T → Call → Ran T) (left_run : L → Call → Ran L) (right_run : R → Call → Ran R) where
@@ -76,13 +77,16 @@ module _ {T L R : Type 0} (top_run : T → Call → Ran T) (left_run : L → Cal
   abbrev pub pile_run : (Pile T L R → Meanings) → Pile T L R → Call → Ran (Pile T L R)
   pile_run means s c = run_of (means s) (found (means s) c.place) c.kind s
 
-  module _ {top_takes : T → Call → Reply → T → Type 0} {left_takes : L → Call → Reply → L → Type 0} {right_takes : R → Call → Reply → R → Type 0} (top_runs : Runs top_takes top_run) (left_runs : Runs left_takes left_run) (right_runs : Runs right_takes right_run) where
-    top_ran : (s u : Pile T L R) (c : Call) (q : Reply) → TopTakes top_takes left_takes right_takes s c q u → record { reply = q; after = u } ≡ on_top s c
+  ended : (s s' : Pile T L R) (r q : Reply) → (r ≡ q) × (s' ≡ s) → ◌≡◌ {A = Ran (Pile T L R)} (record { reply = r; after = s' }) (record { reply = q; after = s })
+  ended s s' r q end = λ j. record { reply = end.0 j; after = end.1 j }
+
+  module _ (top : Form T) (left : Form L) (right : Form R) (top_runs : Runs top.takes top_run) (left_runs : Runs left.takes left_run) (right_runs : Runs right.takes right_run) where
+    top_ran : (s u : Pile T L R) (c : Call) (q : Reply) → TopTakes top left right s c q u → record { reply = q; after = u } ≡ on_top s c
     top_ran s u c q taken =
         let ran = top_runs s.top u.top c q taken.0 in
         λ j. record { reply = (ran j).reply; after = record { top = (ran j).after; left = taken.1 j; right = taken.2 j } }
 
-    side_ran : (d : Side) (s u : Pile T L R) (c : Call) (q : Reply) → SideTakes top_takes left_takes right_takes d s c q u → record { reply = q; after = u } ≡ on_side d s c
+    side_ran : (d : Side) (s u : Pile T L R) (c : Call) (q : Reply) → SideTakes top left right d s c q u → record { reply = q; after = u } ≡ on_side d s c
     side_ran Left s u c q taken =
         let ran = left_runs s.left u.left c q taken.0 in
         λ j. record { reply = (ran j).reply; after = record { top = taken.1 j; left = (ran j).after; right = taken.2 j } }
@@ -90,10 +94,7 @@ module _ {T L R : Type 0} (top_run : T → Call → Ran T) (left_run : L → Cal
         let ran = right_runs s.right u.right c q taken.0 in
         λ j. record { reply = (ran j).reply; after = record { top = taken.1 j; left = taken.2 j; right = (ran j).after } }
 
-    ended : (s s' : Pile T L R) (r q : Reply) → (r ≡ q) × (s' ≡ s) → ◌≡◌ {A = Ran (Pile T L R)} (record { reply = r; after = s' }) (record { reply = q; after = s })
-    ended s s' r q end = λ j. record { reply = end.0 j; after = end.1 j }
-
-    after_side_ran : (q : Reply) (d : Side) (u s' : Pile T L R) (r : Reply) → AfterSide top_takes left_takes right_takes q d u r s' → record { reply = r; after = s' } ≡ then_top d (record { reply = q; after = u }) q
+    after_side_ran : (q : Reply) (d : Side) (u s' : Pile T L R) (r : Reply) → AfterSide top left right q d u r s' → record { reply = r; after = s' } ≡ then_top d (record { reply = q; after = u }) q
     after_side_ran (Ok None) d u s' r after = ended u s' r (Ok None) after
     after_side_ran (Ok (Some Waits)) d u s' r after = ended u s' r (Ok (Some Waits)) after
     after_side_ran (Ok (Some Moves)) d u s' r after = ended u s' r (Ok (Some Moves)) after
@@ -103,7 +104,7 @@ module _ {T L R : Type 0} (top_run : T → Call → Ran T) (left_run : L → Cal
     after_side_ran (Ok (Some Gone)) d u s' r after = ended u s' r (Ok (Some Gone)) after
     after_side_ran (Err e) d u s' r after = ended u s' r (Err e) after
 
-    after_top_ran : (q : Reply) (d : Side) (i : ℕ) (u s' : Pile T L R) (r : Reply) → AfterTop top_takes left_takes right_takes q d i u r s' → record { reply = r; after = s' } ≡ then_side d i (record { reply = q; after = u }) q
+    after_top_ran : (q : Reply) (d : Side) (i : ℕ) (u s' : Pile T L R) (r : Reply) → AfterTop top left right q d i u r s' → record { reply = r; after = s' } ≡ then_side d i (record { reply = q; after = u }) q
     after_top_ran (Ok None) d i u s' r after = ended u s' r (Ok None) after
     after_top_ran (Ok (Some Waits)) d i u s' r after = ended u s' r (Ok (Some Waits)) after
     after_top_ran (Ok (Some Moves)) d i u s' r after = ended u s' r (Ok (Some Moves)) after
@@ -114,30 +115,32 @@ module _ {T L R : Type 0} (top_run : T → Call → Ran T) (left_run : L → Cal
     after_top_ran (Err e) d i u s' r after = ended u s' r (Err e) after
 
     module _ (s s' : Pile T L R) (r : Reply) (d : Side) (i : ℕ) where
-      bid_ran : (o : Option Refusal) → BidAt top_takes left_takes right_takes o d i s r s' → record { reply = r; after = s' } ≡ run_bid o d i s
+      bid_ran : (o : Option Refusal) → BidAt top left right o d i s r s' → record { reply = r; after = s' } ≡ run_bid o d i s
       bid_ran (Some e) taken = ended s s' r (Err e) taken
       bid_ran None taken = side_ran d s s' (bid_by i) r taken
 
-      step_ran : (f : Phase) → StepAt top_takes left_takes right_takes f d i s r s' → record { reply = r; after = s' } ≡ run_step f d i s
+      step_ran : (f : Phase) → StepAt top left right f d i s r s' → record { reply = r; after = s' } ≡ run_step f d i s
       step_ran Out steps = after_side_ran steps.0 d steps.1 s' r steps.3 ∙ ap (λ (x : Ran (Pile T L R)). then_top d x x.reply) (side_ran d s steps.1 (step_by i) steps.0 steps.2)
       step_ran Bidding steps = after_side_ran steps.0 d steps.1 s' r steps.3 ∙ ap (λ (x : Ran (Pile T L R)). then_top d x x.reply) (side_ran d s steps.1 (step_by i) steps.0 steps.2)
       step_ran Holding steps = after_top_ran steps.0 d i steps.1 s' r steps.3 ∙ ap (λ (x : Ran (Pile T L R)). then_side d i x x.reply) (top_ran s steps.1 (step_by (top_place d)) steps.0 steps.2)
       step_ran Leaving steps = after_side_ran steps.0 d steps.1 s' r steps.3 ∙ ap (λ (x : Ran (Pile T L R)). then_top d x x.reply) (side_ran d s steps.1 (step_by i) steps.0 steps.2)
 
-      leave_ran : (f : Phase) → LeaveAt top_takes left_takes right_takes f d s r s' → record { reply = r; after = s' } ≡ run_leave f d s
+      leave_ran : (f : Phase) → LeaveAt top left right f d s r s' → record { reply = r; after = s' } ≡ run_leave f d s
       leave_ran Out refused = ended s s' r (Err WrongPhase) refused
       leave_ran Bidding refused = ended s s' r (Err WrongPhase) refused
       leave_ran Holding taken = top_ran s s' (leave_by (top_place d)) r taken
       leave_ran Leaving refused = ended s s' r (Err WrongPhase) refused
 
-      call_ran : (m : Meanings) (k : Kind) → CallAt top_takes left_takes right_takes m k d i s r s' → record { reply = r; after = s' } ≡ run_at m k d i s
+      call_ran : (m : Meanings) (k : Kind) → CallAt top left right m k d i s r s' → record { reply = r; after = s' } ≡ run_at m k d i s
       call_ran m Bid taken = bid_ran (refusal (side_of d m).places ((side_of d m).phase i) (pile_bids m) (bid_by i)) taken
       call_ran m Step taken = step_ran ((side_of d m).phase i) taken
       call_ran m Leave taken = leave_ran ((side_of d m).phase i) taken
 
-    found_ran : (s s' : Pile T L R) (r : Reply) (m : Meanings) (k : Kind) (b : Option (Side × ℕ)) → CallOf top_takes left_takes right_takes m b k s r s' → record { reply = r; after = s' } ≡ run_of m b k s
+    found_ran : (s s' : Pile T L R) (r : Reply) (m : Meanings) (k : Kind) (b : Option (Side × ℕ)) → CallOf top left right m b k s r s' → record { reply = r; after = s' } ≡ run_of m b k s
     found_ran s s' r m k None refused = ended s s' r (Err NoPlace) refused
     found_ran s s' r m k (Some b) taken = call_ran s s' r b.0 b.1 m k taken
 
-    pub pile_runs : (means : Pile T L R → Meanings) → Runs (PileTakes top_takes left_takes right_takes means) (pile_run means)
-    pile_runs means s t c r taken = found_ran s t r (means s) c.kind (found (means s) c.place) taken
+    pub pile_runs : Runs (PileTakes top left right) (pile_run (meanings top left right))
+    pile_runs s t c r taken =
+        let m = meanings top left right s in
+        found_ran s t r m c.kind (found m c.place) taken

@@ -10,37 +10,37 @@ use Rattle.lock.specs.declared.Refusal.{Refusal}
 use Rattle.lock.specs.declared.Refusal.TheVariants.{NoPlace, WrongPhase}
 use Rattle.lock.specs.Calls.{Reply}
 use Rattle.lock.specs.Calls.{bid_by, step_by, leave_by, refusal}
-use Rattle.lock.specs.Meaning.{Meaning}
+use Rattle.lock.specs.Meaning.{Meaning, Form}
 use Rattle.pile.specs.declared.Side.{Side}
 use Rattle.pile.specs.declared.Side.TheVariants.{Left, Right}
 use Rattle.pile.specs.declared.Pile.{Pile}
 use Rattle.pile.specs.Finding.{Meanings, side_of, top_place, found}
 use Rattle.pile.specs.PileMeaning.{pile_bids, pile_meaning}
 
-module _ {T L R : Type 0} (top_means : T → Meaning) (left_means : L → Meaning) (right_means : R → Meaning) where
-  abbrev pub meanings : Pile T L R → Meanings
-  meanings s = record { top = top_means s.top; left = left_means s.left; right = right_means s.right }
-
-  abbrev pub pile_means : Pile T L R → Meaning
-  pile_means s = pile_meaning (meanings s)
-
--- a pile just made: each part is
-abbrev pub pile_made : {T L R : Type 0} → (T → T) → (L → L) → (R → R) → Pile T L R → Pile T L R
-pile_made top_made left_made right_made s = record { top = top_made s.top; left = left_made s.left; right = right_made s.right }
-
 -- a refused call changes nothing
 abbrev pub Refuses : {S : Type 0} → Refusal → S → Reply → S → Type 0
 Refuses e s r s' = (r ≡ Err e) × (s' ≡ s)
 
-module _ {T L R : Type 0} (top_takes : T → Call → Reply → T → Type 0) (left_takes : L → Call → Reply → L → Type 0) (right_takes : R → Call → Reply → R → Type 0) where
+module _ {T L R : Type 0} (top : Form T) (left : Form L) (right : Form R) where
+  -- what the parts mean, each by itself
+  abbrev pub meanings : Pile T L R → Meanings
+  meanings s = record { top = top.meaning s.top; left = left.meaning s.left; right = right.meaning s.right }
+
+  abbrev pub pile_means : Pile T L R → Meaning
+  pile_means s = pile_meaning (meanings s)
+
+  -- a pile just made: each part is
+  abbrev pub pile_made : Pile T L R → Pile T L R
+  pile_made s = record { top = top.made s.top; left = left.made s.left; right = right.made s.right }
+
   -- a call on the top alone
   abbrev pub TopTakes : Pile T L R → Call → Reply → Pile T L R → Type 0
-  TopTakes s c r s' = top_takes s.top c r s'.top × (s'.left ≡ s.left) × (s'.right ≡ s.right)
+  TopTakes s c r s' = top.takes s.top c r s'.top × (s'.left ≡ s.left) × (s'.right ≡ s.right)
 
   -- a call on one side alone
   abbrev pub SideTakes : Side → Pile T L R → Call → Reply → Pile T L R → Type 0
-  SideTakes Left s c r s' = left_takes s.left c r s'.left × (s'.top ≡ s.top) × (s'.right ≡ s.right)
-  SideTakes Right s c r s' = right_takes s.right c r s'.right × (s'.top ≡ s.top) × (s'.left ≡ s.left)
+  SideTakes Left s c r s' = left.takes s.left c r s'.left × (s'.top ≡ s.top) × (s'.right ≡ s.right)
+  SideTakes Right s c r s' = right.takes s.right c r s'.right × (s'.top ≡ s.top) × (s'.left ≡ s.left)
 
   -- the bid at place i of side d, where the pile refuses none
   abbrev pub BidAt : Option Refusal → Side → ℕ → Pile T L R → Reply → Pile T L R → Type 0
@@ -98,5 +98,5 @@ module _ {T L R : Type 0} (top_takes : T → Call → Reply → T → Type 0) (l
   CallOf m (Some b) k s r s' = CallAt m k b.0 b.1 s r s'
 
   -- each part is found, and does, by what the parts mean before the call
-  abbrev pub PileTakes : (Pile T L R → Meanings) → Pile T L R → Call → Reply → Pile T L R → Type 0
-  PileTakes means s c r s' = CallOf (means s) (found (means s) c.place) c.kind s r s'
+  abbrev pub PileTakes : Pile T L R → Call → Reply → Pile T L R → Type 0
+  PileTakes s c r s' = CallOf (meanings s) (found (meanings s) c.place) c.kind s r s'

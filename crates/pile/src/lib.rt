@@ -3,21 +3,22 @@
 ghost use Rattle.std.specs.Prelude.{◌≡◌, ℕ, ◌<◌, Some};
 ghost use Rattle.lock.specs.Calls.{bid_by, step_by, leave_by, taken_or, answered_or};
 ghost use Rattle.lock.specs.Meaning.{phase_answer};
+ghost use Rattle.lock.specs.Pasts.{Promises};
 ghost use Rattle.pile.specs.declared.Side.{Side as SideOf};
 ghost use Rattle.pile.specs.Finding.{side_of, top_place, found};
-ghost use Rattle.pile.specs.PileCalls.{meanings, pile_means, pile_made, SideTakes, AfterSide, AfterTop, PileTakes};
-ghost use Rattle.pile.specs.Forms.{form, nested, PromisesOf};
+ghost use Rattle.pile.specs.PileCalls.{meanings, pile_made, SideTakes, AfterSide, AfterTop};
+ghost use Rattle.pile.specs.Forms.{piled, nested};
 ghost use Rattle.pile.specs.Joined.{PileSound};
 ghost use Rattle.pile.specs.Laws.PileKeeps.{pile_keeps};
 
-use lock::{Answer, BID_LIMIT, Call, Lock, Phase, Refusal, Reply, call_on};
+use lock::{Answer, Call, Kind, Lock, Phase, Refusal, Reply, admit, call_on};
 
 const PLACE_LIMIT: usize = 64;
 
 const REGISTER_LIMIT: usize = 4096;
 
 /// One of the two lower parts of a pile.
-#[derive(Clone, Copy)]
+#[derive(Clone, Copy, Debug, PartialEq, Eq)]
 pub enum Side {
     Left,
     Right,
@@ -46,7 +47,7 @@ pub struct Pile<T, L, R> {
 impl<T: Lock, L: Lock, R: Lock> Pile<T, L, R> {
     /// A pile of the three locks, each made anew.
     pub fn new(top: T, left: L, right: R) -> Pile<T, L, R>
-        ensures { result ≡ pile_made T.made L.made R.made (record { top = top; left = left; right = right }) }
+        ensures { result ≡ pile_made T.form L.form R.form (record { top = top; left = left; right = right }) }
     {
         let mut pile = Pile { top, left, right };
         pile.put_back();
@@ -55,8 +56,8 @@ impl<T: Lock, L: Lock, R: Lock> Pile<T, L, R> {
 
     /// The side of a place and its place there, absent where there is no such place.
     pub fn find(&self, place: usize) -> Option<(Side, usize)>
-        ensures value { result ≡ found (meanings T.meaning L.meaning R.meaning self.now) place }
-        ensures within { (d : SideOf) (i : ℕ) → result ≡ Some (d, i) → (i < (side_of d (meanings T.meaning L.meaning R.meaning self.now)).places) × (top_place d < (T.meaning self.now.top).places) }
+        ensures value { result ≡ found (meanings T.form L.form R.form self.now) place }
+        ensures within { (d : SideOf) (i : ℕ) → result ≡ Some (d, i) → (i < (side_of d (meanings T.form L.form R.form self.now)).places) × (top_place d < (T.form.meaning self.now.top).places) }
     {
         let left = self.left.places();
         let top = self.top.places();
@@ -71,7 +72,7 @@ impl<T: Lock, L: Lock, R: Lock> Pile<T, L, R> {
 
     // The phase of a place at its side.
     fn side_phase(&self, side: Side, place: usize) -> Option<Phase>
-        ensures { result ≡ phase_answer (side_of side (meanings T.meaning L.meaning R.meaning self.now)) place }
+        ensures { result ≡ phase_answer (side_of side (meanings T.form L.form R.form self.now)) place }
     {
         match side {
             Side::Left => self.left.phase(place),
@@ -80,7 +81,7 @@ impl<T: Lock, L: Lock, R: Lock> Pile<T, L, R> {
     }
 
     fn side_bid(&mut self, side: Side, place: usize) -> Result<(), Refusal>
-        ensures { SideTakes T.takes L.takes R.takes side self.old (bid_by place) (taken_or result) self.new }
+        ensures { SideTakes T.form L.form R.form side self.old (bid_by place) (taken_or result) self.new }
     {
         match side {
             Side::Left => self.left.bid(place),
@@ -89,7 +90,7 @@ impl<T: Lock, L: Lock, R: Lock> Pile<T, L, R> {
     }
 
     fn side_step(&mut self, side: Side, place: usize) -> Result<Answer, Refusal>
-        ensures { SideTakes T.takes L.takes R.takes side self.old (step_by place) (answered_or result) self.new }
+        ensures { SideTakes T.form L.form R.form side self.old (step_by place) (answered_or result) self.new }
     {
         match side {
             Side::Left => self.left.step(place),
@@ -98,7 +99,7 @@ impl<T: Lock, L: Lock, R: Lock> Pile<T, L, R> {
     }
 
     fn side_leave(&mut self, side: Side, place: usize) -> Result<(), Refusal>
-        ensures { SideTakes T.takes L.takes R.takes side self.old (leave_by place) (taken_or result) self.new }
+        ensures { SideTakes T.form L.form R.form side self.old (leave_by place) (taken_or result) self.new }
     {
         match side {
             Side::Left => self.left.leave(place),
@@ -107,48 +108,35 @@ impl<T: Lock, L: Lock, R: Lock> Pile<T, L, R> {
     }
 
     // What follows a step at the side: a box that entered there bids at the top in the same call.
-    fn after_side(
-        &mut self,
-        side: Side,
-        returned: Result<Answer, Refusal>,
-    ) -> Result<Answer, Refusal>
-        ensures { AfterSide T.takes L.takes R.takes (answered_or returned) side self.old (answered_or result) self.new }
+    fn after_side(&mut self, side: Side, answer: Answer) -> Answer
+        ensures { AfterSide T.form L.form R.form (Ok (Some answer)) side self.old (Ok (Some result)) self.new }
     {
-        let Ok(Answer::Enters) = returned else {
-            return returned;
-        };
+        if answer != Answer::Enters {
+            return answer;
+        }
         // The side had no holder before, so its place at the top is out, and the top has taken
         // fewer bids than the sides: it does not refuse.
         let _ = self.top.bid(side.top_place());
-        Ok(Answer::Moves)
+        Answer::Moves
     }
 
     // What follows a step at the top: a box that is out there leaves its side in the same call.
-    fn after_top(
-        &mut self,
-        side: Side,
-        place: usize,
-        returned: Result<Answer, Refusal>,
-    ) -> Result<Answer, Refusal>
-        ensures { AfterTop T.takes L.takes R.takes (answered_or returned) side place self.old (answered_or result) self.new }
+    fn after_top(&mut self, side: Side, place: usize, answer: Answer) -> Answer
+        ensures { AfterTop T.form L.form R.form (Ok (Some answer)) side place self.old (Ok (Some result)) self.new }
     {
-        let Ok(Answer::Out) = returned else {
-            return returned;
-        };
+        if answer != Answer::Out {
+            return answer;
+        }
         // The box holds its side, so the side does not refuse.
         let _ = self.side_leave(side, place);
-        Ok(Answer::Moves)
+        Answer::Moves
     }
 }
 
 impl<T: Lock, L: Lock, R: Lock> Lock for Pile<T, L, R> {
-    ghost meaning = { pile_means T.meaning L.meaning R.meaning };
+    ghost form = { piled T.form L.form R.form };
 
-    ghost takes = { PileTakes T.takes L.takes R.takes (meanings T.meaning L.meaning R.meaning) };
-
-    ghost made = { pile_made T.made L.made R.made };
-
-    ghost sound = { PileSound T.sound L.sound R.sound (meanings T.meaning L.meaning R.meaning) };
+    ghost sound = { PileSound T.sound L.sound R.sound (meanings T.form L.form R.form) };
 
     ghost keeps = { pile_keeps T.keeps L.keeps R.keeps };
 
@@ -159,38 +147,27 @@ impl<T: Lock, L: Lock, R: Lock> Lock for Pile<T, L, R> {
     }
 
     fn bid(&mut self, place: usize) -> Result<(), Refusal> {
-        let Some((side, inner)) = self.find(place) else {
-            return Err(Refusal::NoPlace);
-        };
-        let Some(Phase::Out) = self.side_phase(side, inner) else {
-            return Err(Refusal::WrongPhase);
-        };
-        if self.bids() >= BID_LIMIT {
-            return Err(Refusal::BidsSpent);
-        }
+        let (side, inner) = self.find(place).ok_or(Refusal::NoPlace)?;
+        admit(Kind::Bid, self.side_phase(side, inner), self.bids())?;
         self.side_bid(side, inner)
     }
 
     fn step(&mut self, place: usize) -> Result<Answer, Refusal> {
-        let Some((side, inner)) = self.find(place) else {
-            return Err(Refusal::NoPlace);
-        };
-        if let Some(Phase::Holding) = self.side_phase(side, inner) {
-            let result = self.top.step(side.top_place());
-            self.after_top(side, inner, result)
+        let (side, inner) = self.find(place).ok_or(Refusal::NoPlace)?;
+        if self.side_phase(side, inner) == Some(Phase::Holding) {
+            let answer = self.top.step(side.top_place())?;
+            Ok(self.after_top(side, inner, answer))
         } else {
-            let result = self.side_step(side, inner);
-            self.after_side(side, result)
+            let answer = self.side_step(side, inner)?;
+            Ok(self.after_side(side, answer))
         }
     }
 
     fn leave(&mut self, place: usize) -> Result<(), Refusal> {
-        let Some((side, inner)) = self.find(place) else {
-            return Err(Refusal::NoPlace);
-        };
-        let Some(Phase::Holding) = self.side_phase(side, inner) else {
+        let (side, inner) = self.find(place).ok_or(Refusal::NoPlace)?;
+        if self.side_phase(side, inner) != Some(Phase::Holding) {
             return Err(Refusal::WrongPhase);
-        };
+        }
         self.top.leave(side.top_place())
     }
 
@@ -203,14 +180,11 @@ impl<T: Lock, L: Lock, R: Lock> Lock for Pile<T, L, R> {
     }
 
     fn holder(&self) -> Option<usize> {
-        match self.top.holder() {
-            Some(0) => self.left.holder(),
-            Some(1) => {
-                let left = self.left.places();
-                match self.right.holder() {
-                    Some(place) if place < self.places() - left => Some(left + place),
-                    _ => None,
-                }
+        match self.top.holder()? {
+            0 => self.left.holder(),
+            1 => {
+                let place = self.left.places() + self.right.holder()?;
+                (place < self.places()).then_some(place)
             }
             _ => None,
         }
@@ -255,8 +229,8 @@ pub fn call_on_nested<Top: Lock, Upper: Lock, First: Lock, Second: Lock, Last: L
     pile: &mut Pile<Top, Pile<Upper, First, Second>, Last>,
     call: Call,
 ) -> Reply
-    ensures outcome { (nested (form Top.meaning Top.takes Top.made) (form Upper.meaning Upper.takes Upper.made) (form First.meaning First.takes First.made) (form Second.meaning Second.takes Second.made) (form Last.meaning Last.takes Last.made)).takes pile.old call result pile.new }
-    ensures promises { PromisesOf (nested (form Top.meaning Top.takes Top.made) (form Upper.meaning Upper.takes Upper.made) (form First.meaning First.takes First.made) (form Second.meaning Second.takes Second.made) (form Last.meaning Last.takes Last.made)) }
+    ensures outcome { (nested Top.form Upper.form First.form Second.form Last.form).takes pile.old call result pile.new }
+    ensures promises { Promises (nested Top.form Upper.form First.form Second.form Last.form) }
 {
     call_on(pile, call)
 }

@@ -12,36 +12,37 @@ use Rattle.lock.specs.declared.Refusal.{Refusal}
 use Rattle.lock.specs.declared.Refusal.TheVariants.{NoPlace, WrongPhase}
 use Rattle.lock.specs.Calls.{Reply}
 use Rattle.lock.specs.Calls.{bid_by, step_by, leave_by, refusal}
-use Rattle.lock.specs.Meaning.{Meaning, WellFormed, SameSize, Fresh, Keeps}
+use Rattle.lock.specs.Meaning.{WellFormed, SameSize, Fresh, Form, Keeps}
 use Rattle.pile.specs.declared.Side.{Side}
 use Rattle.pile.specs.declared.Side.TheVariants.{Left, Right}
 use Rattle.pile.specs.declared.Pile.{Pile}
 use Rattle.pile.specs.Finding.{Meanings, side_of, top_place, found}
 use Rattle.pile.specs.PileMeaning.{pile_bids}
-use Rattle.pile.specs.PileCalls.{meanings, pile_means, pile_made, TopTakes, SideTakes, BidAt, AfterSide, AfterTop, SideSteps, TopSteps, StepAt, LeaveAt, CallAt, CallOf, PileTakes}
+use Rattle.pile.specs.PileCalls.{meanings, pile_made, TopTakes, SideTakes, BidAt, AfterSide, AfterTop, SideSteps, TopSteps, StepAt, LeaveAt, CallAt, CallOf}
+use Rattle.pile.specs.Forms.{piled}
 use Rattle.pile.specs.Joined.{PileSound}
 use Rattle.pile.specs.Laws.Events.{Formed, pile_sizes}
 use Rattle.pile.specs.Laws.PileFormed.{pile_formed}
 use Rattle.pile.specs.Laws.PileMade.{made_joined, made_fresh}
-use Rattle.pile.specs.Laws.PileOutcomes.{Altered, same_pile, pile_outcome}
+use Rattle.pile.specs.Laws.PileOutcomes.{Altered, altering, same_pile, pile_outcome}
 
 -- a call on a sound lock changes what it means as a lock may
-altered : {X : Type 0} {means : X → Meaning} {takes : X → Call → Reply → X → Type 0} {made : X → X} {sound : X → Type 0} → Keeps means takes made sound → (s t : X) (c : Call) (r : Reply) → sound s → takes s c r t → Altered (means s) c r (means t)
+altered : {X : Type 0} {F : Form X} {sound : X → Type 0} → Keeps F sound → (s t : X) (c : Call) (r : Reply) → sound s → F.takes s c r t → Altered (F.meaning s) c r (F.meaning t)
 altered keeps s t c r so taken = (keeps.changes s t c r so taken, keeps.well_formed t (keeps.stays_sound s t c r so taken))
 
-unlike_taken : {e : Refusal} → Err e ≢ (Ok None)
+unlike_taken : {e : Refusal} → ◌≢◌ {A = Reply} (Err e) (Ok None)
 unlike_taken is = let z : ◌≡◌ {A = ℕ} 0 1 = cc in omega arith
 
-unlike_answered : {e : Refusal} {a : Answer} → Err e ≢ Ok (Some a)
+unlike_answered : {e : Refusal} {a : Answer} → ◌≢◌ {A = Reply} (Err e) (Ok (Some a))
 unlike_answered is = let z : ◌≡◌ {A = ℕ} 0 1 = cc in omega arith
 
 module _
     {T L R : Type 0}
-    {top_means : T → Meaning} {top_takes : T → Call → Reply → T → Type 0} {top_made : T → T} {top_sound : T → Type 0} (top_keeps : Keeps top_means top_takes top_made top_sound)
-    {left_means : L → Meaning} {left_takes : L → Call → Reply → L → Type 0} {left_made : L → L} {left_sound : L → Type 0} (left_keeps : Keeps left_means left_takes left_made left_sound)
-    {right_means : R → Meaning} {right_takes : R → Call → Reply → R → Type 0} {right_made : R → R} {right_sound : R → Type 0} (right_keeps : Keeps right_means right_takes right_made right_sound) where
+    {top_form : Form T} {top_sound : T → Type 0} (top_keeps : Keeps top_form top_sound)
+    {left_form : Form L} {left_sound : L → Type 0} (left_keeps : Keeps left_form left_sound)
+    {right_form : Form R} {right_sound : R → Type 0} (right_keeps : Keeps right_form right_sound) where
   abbrev means : Pile T L R → Meanings
-  means = meanings top_means left_means right_means
+  means = meanings top_form left_form right_form
 
   record PartsSound (s : Pile T L R) : Type 0 where
     top : top_sound s.top
@@ -50,26 +51,26 @@ module _
 
   -- a call on the parts is one on what they mean, and leaves them sound
 
-  side_lifted : (d : Side) (s u : Pile T L R) (c : Call) (q : Reply) → PartsSound s → SideTakes top_takes left_takes right_takes d s c q u → SideTakes Altered Altered Altered d (means s) c q (means u) × PartsSound u
+  side_lifted : (d : Side) (s u : Pile T L R) (c : Call) (q : Reply) → PartsSound s → SideTakes top_form left_form right_form d s c q u → SideTakes altering altering altering d (means s) c q (means u) × PartsSound u
   side_lifted Left s u c q so taken = (
-    (altered left_keeps s.left u.left c q so.left taken.0, ap top_means taken.1, ap right_means taken.2),
+    (altered left_keeps s.left u.left c q so.left taken.0, ap top_form.meaning taken.1, ap right_form.meaning taken.2),
     record { top = subst top_sound (sym taken.1) so.top; left = left_keeps.stays_sound s.left u.left c q so.left taken.0; right = subst right_sound (sym taken.2) so.right },
   )
   side_lifted Right s u c q so taken = (
-    (altered right_keeps s.right u.right c q so.right taken.0, ap top_means taken.1, ap left_means taken.2),
+    (altered right_keeps s.right u.right c q so.right taken.0, ap top_form.meaning taken.1, ap left_form.meaning taken.2),
     record { top = subst top_sound (sym taken.1) so.top; left = subst left_sound (sym taken.2) so.left; right = right_keeps.stays_sound s.right u.right c q so.right taken.0 },
   )
 
-  top_lifted : (s u : Pile T L R) (c : Call) (q : Reply) → PartsSound s → TopTakes top_takes left_takes right_takes s c q u → TopTakes Altered Altered Altered (means s) c q (means u) × PartsSound u
+  top_lifted : (s u : Pile T L R) (c : Call) (q : Reply) → PartsSound s → TopTakes top_form left_form right_form s c q u → TopTakes altering altering altering (means s) c q (means u) × PartsSound u
   top_lifted s u c q so taken = (
-    (altered top_keeps s.top u.top c q so.top taken.0, ap left_means taken.1, ap right_means taken.2),
+    (altered top_keeps s.top u.top c q so.top taken.0, ap left_form.meaning taken.1, ap right_form.meaning taken.2),
     record { top = top_keeps.stays_sound s.top u.top c q so.top taken.0; left = subst left_sound (sym taken.1) so.left; right = subst right_sound (sym taken.2) so.right },
   )
 
   ended : (s s' : Pile T L R) (r q : Reply) → PartsSound s → (r ≡ q) × (s' ≡ s) → ((r ≡ q) × (means s' ≡ means s)) × PartsSound s'
   ended s s' r q so end = ((end.0, ap means end.1), subst PartsSound (sym end.1) so)
 
-  after_side_lifted : (q : Reply) (d : Side) (s s' : Pile T L R) (r : Reply) → PartsSound s → AfterSide top_takes left_takes right_takes q d s r s' → AfterSide Altered Altered Altered q d (means s) r (means s') × PartsSound s'
+  after_side_lifted : (q : Reply) (d : Side) (s s' : Pile T L R) (r : Reply) → PartsSound s → AfterSide top_form left_form right_form q d s r s' → AfterSide altering altering altering q d (means s) r (means s') × PartsSound s'
   after_side_lifted (Ok None) d s s' r so after = ended s s' r (Ok None) so after
   after_side_lifted (Ok (Some Waits)) d s s' r so after = ended s s' r (Ok (Some Waits)) so after
   after_side_lifted (Ok (Some Moves)) d s s' r so after = ended s s' r (Ok (Some Moves)) so after
@@ -79,7 +80,7 @@ module _
   after_side_lifted (Ok (Some Gone)) d s s' r so after = ended s s' r (Ok (Some Gone)) so after
   after_side_lifted (Err e) d s s' r so after = ended s s' r (Err e) so after
 
-  after_top_lifted : (q : Reply) (d : Side) (i : ℕ) (s s' : Pile T L R) (r : Reply) → PartsSound s → AfterTop top_takes left_takes right_takes q d i s r s' → AfterTop Altered Altered Altered q d i (means s) r (means s') × PartsSound s'
+  after_top_lifted : (q : Reply) (d : Side) (i : ℕ) (s s' : Pile T L R) (r : Reply) → PartsSound s → AfterTop top_form left_form right_form q d i s r s' → AfterTop altering altering altering q d i (means s) r (means s') × PartsSound s'
   after_top_lifted (Ok None) d i s s' r so after = ended s s' r (Ok None) so after
   after_top_lifted (Ok (Some Waits)) d i s s' r so after = ended s s' r (Ok (Some Waits)) so after
   after_top_lifted (Ok (Some Moves)) d i s s' r so after = ended s s' r (Ok (Some Moves)) so after
@@ -90,54 +91,54 @@ module _
   after_top_lifted (Err e) d i s s' r so after = ended s s' r (Err e) so after
 
   module _ (s s' : Pile T L R) (r : Reply) (so : PartsSound s) (d : Side) (i : ℕ) where
-    bid_lifted : (o : Option Refusal) → BidAt top_takes left_takes right_takes o d i s r s' → BidAt Altered Altered Altered o d i (means s) r (means s') × PartsSound s'
+    bid_lifted : (o : Option Refusal) → BidAt top_form left_form right_form o d i s r s' → BidAt altering altering altering o d i (means s) r (means s') × PartsSound s'
     bid_lifted (Some e) taken = ended s s' r (Err e) so taken
     bid_lifted None taken = side_lifted d s s' (bid_by i) r so taken
 
-    side_steps_lifted : SideSteps top_takes left_takes right_takes d i s r s' → SideSteps Altered Altered Altered d i (means s) r (means s') × PartsSound s'
+    side_steps_lifted : SideSteps top_form left_form right_form d i s r s' → SideSteps altering altering altering d i (means s) r (means s') × PartsSound s'
     side_steps_lifted steps =
         let step = side_lifted d s steps.1 (step_by i) steps.0 so steps.2 in
         let after = after_side_lifted steps.0 d steps.1 s' r step.1 steps.3 in
         ((steps.0, means steps.1, step.0, after.0), after.1)
 
-    top_steps_lifted : TopSteps top_takes left_takes right_takes d i s r s' → TopSteps Altered Altered Altered d i (means s) r (means s') × PartsSound s'
+    top_steps_lifted : TopSteps top_form left_form right_form d i s r s' → TopSteps altering altering altering d i (means s) r (means s') × PartsSound s'
     top_steps_lifted steps =
         let step = top_lifted s steps.1 (step_by (top_place d)) steps.0 so steps.2 in
         let after = after_top_lifted steps.0 d i steps.1 s' r step.1 steps.3 in
         ((steps.0, means steps.1, step.0, after.0), after.1)
 
-    step_lifted : (f : Phase) → StepAt top_takes left_takes right_takes f d i s r s' → StepAt Altered Altered Altered f d i (means s) r (means s') × PartsSound s'
+    step_lifted : (f : Phase) → StepAt top_form left_form right_form f d i s r s' → StepAt altering altering altering f d i (means s) r (means s') × PartsSound s'
     step_lifted Out steps = side_steps_lifted steps
     step_lifted Bidding steps = side_steps_lifted steps
     step_lifted Holding steps = top_steps_lifted steps
     step_lifted Leaving steps = side_steps_lifted steps
 
-    leave_lifted : (f : Phase) → LeaveAt top_takes left_takes right_takes f d s r s' → LeaveAt Altered Altered Altered f d (means s) r (means s') × PartsSound s'
+    leave_lifted : (f : Phase) → LeaveAt top_form left_form right_form f d s r s' → LeaveAt altering altering altering f d (means s) r (means s') × PartsSound s'
     leave_lifted Out refused = ended s s' r (Err WrongPhase) so refused
     leave_lifted Bidding refused = ended s s' r (Err WrongPhase) so refused
     leave_lifted Holding taken = top_lifted s s' (leave_by (top_place d)) r so taken
     leave_lifted Leaving refused = ended s s' r (Err WrongPhase) so refused
 
-    call_lifted : (k : Kind) → CallAt top_takes left_takes right_takes (means s) k d i s r s' → CallAt Altered Altered Altered (means s) k d i (means s) r (means s') × PartsSound s'
+    call_lifted : (k : Kind) → CallAt top_form left_form right_form (means s) k d i s r s' → CallAt altering altering altering (means s) k d i (means s) r (means s') × PartsSound s'
     call_lifted Bid taken = bid_lifted (refusal (side_of d (means s)).places ((side_of d (means s)).phase i) (pile_bids (means s)) (bid_by i)) taken
     call_lifted Step taken = step_lifted ((side_of d (means s)).phase i) taken
     call_lifted Leave taken = leave_lifted ((side_of d (means s)).phase i) taken
 
-  lifted : (s s' : Pile T L R) (k : Kind) (r : Reply) → PartsSound s → (b : Option (Side × ℕ)) → CallOf top_takes left_takes right_takes (means s) b k s r s' → CallOf Altered Altered Altered (means s) b k (means s) r (means s') × PartsSound s'
+  lifted : (s s' : Pile T L R) (k : Kind) (r : Reply) → PartsSound s → (b : Option (Side × ℕ)) → CallOf top_form left_form right_form (means s) b k s r s' → CallOf altering altering altering (means s) b k (means s) r (means s') × PartsSound s'
   lifted s s' k r so None refused = ended s s' r (Err NoPlace) so refused
   lifted s s' k r so (Some b) taken = call_lifted s s' r so b.0 b.1 k taken
 
   -- a refused call changes no part
 
-  side_untouched : (d : Side) (s u : Pile T L R) (c : Call) (e : Refusal) → SideTakes top_takes left_takes right_takes d s c (Err e) u → u ≡ s
+  side_untouched : (d : Side) (s u : Pile T L R) (c : Call) (e : Refusal) → SideTakes top_form left_form right_form d s c (Err e) u → u ≡ s
   side_untouched Left s u c e taken = same_pile s u taken.1 (left_keeps.untouched s.left u.left c e taken.0) taken.2
   side_untouched Right s u c e taken = same_pile s u taken.1 taken.2 (right_keeps.untouched s.right u.right c e taken.0)
 
-  top_untouched : (s u : Pile T L R) (c : Call) (e : Refusal) → TopTakes top_takes left_takes right_takes s c (Err e) u → u ≡ s
+  top_untouched : (s u : Pile T L R) (c : Call) (e : Refusal) → TopTakes top_form left_form right_form s c (Err e) u → u ≡ s
   top_untouched s u c e taken = same_pile s u (top_keeps.untouched s.top u.top c e taken.0) taken.1 taken.2
 
   module _ (d : Side) (i : ℕ) (s s' : Pile T L R) (e : Refusal) where
-    side_steps_untouched : (u : Pile T L R) (q : Reply) → SideTakes top_takes left_takes right_takes d s (step_by i) q u → AfterSide top_takes left_takes right_takes q d u (Err e) s' → s' ≡ s
+    side_steps_untouched : (u : Pile T L R) (q : Reply) → SideTakes top_form left_form right_form d s (step_by i) q u → AfterSide top_form left_form right_form q d u (Err e) s' → s' ≡ s
     side_steps_untouched u (Ok None) taken after = absurd (unlike_taken after.0)
     side_steps_untouched u (Ok (Some Waits)) taken after = absurd (unlike_answered after.0)
     side_steps_untouched u (Ok (Some Moves)) taken after = absurd (unlike_answered after.0)
@@ -145,7 +146,7 @@ module _
     side_steps_untouched u (Ok (Some Gone)) taken after = absurd (unlike_answered after.0)
     side_steps_untouched u (Err b) taken after = after.1 ∙ side_untouched d s u (step_by i) b taken
 
-    top_steps_untouched : (u : Pile T L R) (q : Reply) → TopTakes top_takes left_takes right_takes s (step_by (top_place d)) q u → AfterTop top_takes left_takes right_takes q d i u (Err e) s' → s' ≡ s
+    top_steps_untouched : (u : Pile T L R) (q : Reply) → TopTakes top_form left_form right_form s (step_by (top_place d)) q u → AfterTop top_form left_form right_form q d i u (Err e) s' → s' ≡ s
     top_steps_untouched u (Ok None) taken after = absurd (unlike_taken after.0)
     top_steps_untouched u (Ok (Some Waits)) taken after = absurd (unlike_answered after.0)
     top_steps_untouched u (Ok (Some Moves)) taken after = absurd (unlike_answered after.0)
@@ -153,33 +154,33 @@ module _
     top_steps_untouched u (Ok (Some Gone)) taken after = absurd (unlike_answered after.0)
     top_steps_untouched u (Err b) taken after = after.1 ∙ top_untouched s u (step_by (top_place d)) b taken
 
-    bid_untouched : (o : Option Refusal) → BidAt top_takes left_takes right_takes o d i s (Err e) s' → s' ≡ s
+    bid_untouched : (o : Option Refusal) → BidAt top_form left_form right_form o d i s (Err e) s' → s' ≡ s
     bid_untouched (Some b) refused = refused.1
     bid_untouched None taken = side_untouched d s s' (bid_by i) e taken
 
-    step_untouched : (f : Phase) → StepAt top_takes left_takes right_takes f d i s (Err e) s' → s' ≡ s
+    step_untouched : (f : Phase) → StepAt top_form left_form right_form f d i s (Err e) s' → s' ≡ s
     step_untouched Out steps = side_steps_untouched steps.1 steps.0 steps.2 steps.3
     step_untouched Bidding steps = side_steps_untouched steps.1 steps.0 steps.2 steps.3
     step_untouched Holding steps = top_steps_untouched steps.1 steps.0 steps.2 steps.3
     step_untouched Leaving steps = side_steps_untouched steps.1 steps.0 steps.2 steps.3
 
-    leave_untouched : (f : Phase) → LeaveAt top_takes left_takes right_takes f d s (Err e) s' → s' ≡ s
+    leave_untouched : (f : Phase) → LeaveAt top_form left_form right_form f d s (Err e) s' → s' ≡ s
     leave_untouched Out refused = refused.1
     leave_untouched Bidding refused = refused.1
     leave_untouched Holding taken = top_untouched s s' (leave_by (top_place d)) e taken
     leave_untouched Leaving refused = refused.1
 
-    call_untouched : (k : Kind) → CallAt top_takes left_takes right_takes (means s) k d i s (Err e) s' → s' ≡ s
+    call_untouched : (k : Kind) → CallAt top_form left_form right_form (means s) k d i s (Err e) s' → s' ≡ s
     call_untouched Bid taken = bid_untouched (refusal (side_of d (means s)).places ((side_of d (means s)).phase i) (pile_bids (means s)) (bid_by i)) taken
     call_untouched Step taken = step_untouched ((side_of d (means s)).phase i) taken
     call_untouched Leave taken = leave_untouched ((side_of d (means s)).phase i) taken
 
-  untouched_at : (s s' : Pile T L R) (k : Kind) (e : Refusal) (b : Option (Side × ℕ)) → CallOf top_takes left_takes right_takes (means s) b k s (Err e) s' → s' ≡ s
+  untouched_at : (s s' : Pile T L R) (k : Kind) (e : Refusal) (b : Option (Side × ℕ)) → CallOf top_form left_form right_form (means s) b k s (Err e) s' → s' ≡ s
   untouched_at s s' k e None refused = refused.1
   untouched_at s s' k e (Some b) taken = call_untouched b.0 b.1 s s' e k taken
 
   abbrev made : Pile T L R → Pile T L R
-  made = pile_made top_made left_made right_made
+  made = pile_made top_form left_form right_form
 
   abbrev Sound : Pile T L R → Type 0
   Sound = PileSound top_sound left_sound right_sound means
@@ -202,7 +203,7 @@ module _
   sides_sized s Left = left_keeps.made_sizes s.left
   sides_sized s Right = right_keeps.made_sizes s.right
 
-  pub pile_keeps : Keeps (pile_means top_means left_means right_means) (PileTakes top_takes left_takes right_takes means) made Sound
+  pub pile_keeps : Keeps (piled top_form left_form right_form) Sound
   pile_keeps =
       record {
         made_sound = λ s.

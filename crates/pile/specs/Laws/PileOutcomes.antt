@@ -13,7 +13,7 @@ use Rattle.lock.specs.declared.Refusal.{Refusal}
 use Rattle.lock.specs.declared.Refusal.TheVariants.{NoPlace, WrongPhase}
 use Rattle.lock.specs.Calls.{Reply}
 use Rattle.lock.specs.Calls.{bid_by, step_by, leave_by, fits, one_too_many, refusal}
-use Rattle.lock.specs.Meaning.{Meaning, WellFormed, SameSize, Stepped, Changes, refusal_of}
+use Rattle.lock.specs.Meaning.{Meaning, Form, WellFormed, SameSize, Stepped, Changes, refusal_of}
 use Rattle.lock.proofs.Admitted.{admitted, out_fits, holding_fits}
 use Rattle.pile.specs.declared.Side.{Side}
 use Rattle.pile.specs.declared.Side.TheVariants.{Left, Right}
@@ -30,16 +30,20 @@ use Rattle.pile.specs.Laws.PileChanges.{call, pile_within, side_within, top_with
 abbrev pub Altered : Meaning → Call → Reply → Meaning → Type 0
 Altered m c r m' = Changes (refusal_of m c) m c r m' × WellFormed m'
 
+-- what is known of a lock that is no more than what it means
+abbrev pub altering : Form Meaning
+altering = record { meaning = λ m. m; takes = Altered; made = λ m. m }
+
 -- two piles with the same parts are the same
 pub same_pile : {T L R : Type 0} (s u : Pile T L R) → u.top ≡ s.top → u.left ≡ s.left → u.right ≡ s.right → u ≡ s
 same_pile s u top left right = λ j. record { top = top j; left = left j; right = right j }
 
 -- what is known of a call at one side of a pile of meanings, whichever side it is
-side_taken : (d : Side) (m u : Meanings) (c : Call) (q : Reply) → SideTakes Altered Altered Altered d m c q u → Altered (side_of d m) c q (side_of d u) × (u.top ≡ m.top) × (side_of (other d) u ≡ side_of (other d) m)
+side_taken : (d : Side) (m u : Meanings) (c : Call) (q : Reply) → SideTakes altering altering altering d m c q u → Altered (side_of d m) c q (side_of d u) × (u.top ≡ m.top) × (side_of (other d) u ≡ side_of (other d) m)
 side_taken Left m u c q taken = taken
 side_taken Right m u c q taken = taken
 
-top_taken : (m u : Meanings) (c : Call) (q : Reply) → TopTakes Altered Altered Altered m c q u → (e : Side) → side_of e u ≡ side_of e m
+top_taken : (m u : Meanings) (c : Call) (q : Reply) → TopTakes altering altering altering m c q u → (e : Side) → side_of e u ≡ side_of e m
 top_taken m u c q taken Left = taken.1
 top_taken m u c q taken Right = taken.2
 
@@ -83,7 +87,7 @@ module _ (m : Meanings) (formed : Formed m) (joined : Joined m) (d : Side) (i p 
       (pile_within m formed joined d i p there) (side_within m formed joined d i p there)
       (ap (fits Bid) (phase_is m formed joined d i p there) ∙ fits_bid_alike ((side_of d m).phase i) (m.top.phase (top_place d)) (joined.held_in_use d i)) refl
 
-  bid_done : (r : Reply) (m' : Meanings) (o : Option Refusal) → bid_refusal ≡ o → BidAt Altered Altered Altered o d i m r m' → Done o m Bid p r m'
+  bid_done : (r : Reply) (m' : Meanings) (o : Option Refusal) → bid_refusal ≡ o → BidAt altering altering altering o d i m r m' → Done o m Bid p r m'
   bid_done r m' (Some e) is refused = refused_done m m' Bid p e r joined refused.0 refused.1
   bid_done r m' None is taken =
       let ok = admitted (side_of d m).places ((side_of d m).phase i) (pile_bids m) (bid_by i) is in
@@ -108,7 +112,7 @@ module _ (m : Meanings) (formed : Formed m) (joined : Joined m) (d : Side) (i p 
         subst (λ (x : Meanings). Done None m Step p r x) (sym after.1)
         (((a, after.0, stepped, same_bids_below m formed joined d i p there u top rest size bids kept), side_sizes_of u size top rest), kept)
 
-    side_answered : (r : Reply) (m' : Meanings) (a : Answer) → Stepped (side_of d m) i a (side_of d u) → (side_of d u).bids ≡ (side_of d m).bids → SameSize (side_of d m) (side_of d u) → AfterSide Altered Altered Altered (Ok (Some a)) d u r m' → Done None m Step p r m'
+    side_answered : (r : Reply) (m' : Meanings) (a : Answer) → Stepped (side_of d m) i a (side_of d u) → (side_of d u).bids ≡ (side_of d m).bids → SameSize (side_of d m) (side_of d u) → AfterSide altering altering altering (Ok (Some a)) d u r m' → Done None m Step p r m'
     side_answered r m' Waits waited bids size after =
         side_replied r m' Waits bids size after (side_waited m formed joined d i p there u top rest size bids waited) (side_kept m formed joined d i p there u top rest size bids waited.phases)
     side_answered r m' Moves moved bids size after =
@@ -133,15 +137,15 @@ module _ (m : Meanings) (formed : Formed m) (joined : Joined m) (d : Side) (i p 
         in
         (((Moves, after.0, climb.moved, climb.bids), climb.size), climb.joined)
 
-  side_done : (q r : Reply) (u m' : Meanings) → SideTakes Altered Altered Altered d m (step_by i) q u → AfterSide Altered Altered Altered q d u r m' → (o : Option Refusal) → Changes o (side_of d m) (step_by i) q (side_of d u) → Done o m Step p r m'
+  side_done : (q r : Reply) (u m' : Meanings) → SideTakes altering altering altering d m (step_by i) q u → AfterSide altering altering altering q d u r m' → (o : Option Refusal) → Changes o (side_of d m) (step_by i) q (side_of d u) → Done o m Step p r m'
   side_done q r u m' taken after (Some e) changed =
       let parts = side_taken d m u (step_by i) q taken in
-      let refused = subst (λ (x : Reply). AfterSide Altered Altered Altered x d u r m') changed.0 after in
+      let refused = subst (λ (x : Reply). AfterSide altering altering altering x d u r m') changed.0 after in
       refused_done m m' Step p e r joined refused.0 (refused.1 ∙ same_side u changed.1 parts.1 parts.2)
   side_done q r u m' taken after None changed =
       let parts = side_taken d m u (step_by i) q taken in
       let step = changed.0 in
-      side_answered u parts.1 parts.2 parts.0.1 r m' step.0 step.2 step.3 changed.1 (subst (λ (x : Reply). AfterSide Altered Altered Altered x d u r m') step.1 after)
+      side_answered u parts.1 parts.2 parts.0.1 r m' step.0 step.2 step.3 changed.1 (subst (λ (x : Reply). AfterSide altering altering altering x d u r m') step.1 after)
 
   -- the calls of a box that holds its side
 
@@ -157,7 +161,7 @@ module _ (m : Meanings) (formed : Formed m) (joined : Joined m) (d : Side) (i p 
         subst (λ (x : Meanings). Done None m Step p r x) (sym after.1)
         (((a, after.0, stepped, same_bids_above m formed joined d i p there u sides size holds kept), top_sizes_of u size sides), kept)
 
-    top_answered : (r : Reply) (m' : Meanings) (a : Answer) → Stepped m.top (top_place d) a u.top → u.top.bids ≡ m.top.bids → SameSize m.top u.top → AfterTop Altered Altered Altered (Ok (Some a)) d i u r m' → Done None m Step p r m'
+    top_answered : (r : Reply) (m' : Meanings) (a : Answer) → Stepped m.top (top_place d) a u.top → u.top.bids ≡ m.top.bids → SameSize m.top u.top → AfterTop altering altering altering (Ok (Some a)) d i u r m' → Done None m Step p r m'
     top_answered r m' Waits waited bids size after =
         top_replied r m' Waits size after (top_waited m formed joined d i p there u sides size holds bids waited) (top_kept m formed joined d i p there u sides size holds bids waited.phases)
     top_answered r m' Moves moved bids size after =
@@ -180,15 +184,15 @@ module _ (m : Meanings) (formed : Formed m) (joined : Joined m) (d : Side) (i p 
         in
         (((Moves, after.0, descent.moved, descent.bids), descent.size), descent.joined)
 
-  top_done : (side_of d m).phase i ≡ Holding → (q r : Reply) (u m' : Meanings) → TopTakes Altered Altered Altered m (step_by (top_place d)) q u → AfterTop Altered Altered Altered q d i u r m' → (o : Option Refusal) → Changes o m.top (step_by (top_place d)) q u.top → Done o m Step p r m'
+  top_done : (side_of d m).phase i ≡ Holding → (q r : Reply) (u m' : Meanings) → TopTakes altering altering altering m (step_by (top_place d)) q u → AfterTop altering altering altering q d i u r m' → (o : Option Refusal) → Changes o m.top (step_by (top_place d)) q u.top → Done o m Step p r m'
   top_done holds q r u m' taken after (Some e) changed =
-      let refused = subst (λ (x : Reply). AfterTop Altered Altered Altered x d i u r m') changed.0 after in
+      let refused = subst (λ (x : Reply). AfterTop altering altering altering x d i u r m') changed.0 after in
       refused_done m m' Step p e r joined refused.0 (refused.1 ∙ same_pile m u changed.1 taken.1 taken.2)
   top_done holds q r u m' taken after None changed =
       let step = changed.0 in
-      top_answered u (top_taken m u (step_by (top_place d)) q taken) holds r m' step.0 step.2 step.3 changed.1 (subst (λ (x : Reply). AfterTop Altered Altered Altered x d i u r m') step.1 after)
+      top_answered u (top_taken m u (step_by (top_place d)) q taken) holds r m' step.0 step.2 step.3 changed.1 (subst (λ (x : Reply). AfterTop altering altering altering x d i u r m') step.1 after)
 
-  leave_done : (side_of d m).phase i ≡ Holding → (r : Reply) (m' : Meanings) → TopTakes Altered Altered Altered m (leave_by (top_place d)) r m' → (o : Option Refusal) → refusal_of m.top (leave_by (top_place d)) ≡ o → Changes o m.top (leave_by (top_place d)) r m'.top → Done o m Leave p r m'
+  leave_done : (side_of d m).phase i ≡ Holding → (r : Reply) (m' : Meanings) → TopTakes altering altering altering m (leave_by (top_place d)) r m' → (o : Option Refusal) → refusal_of m.top (leave_by (top_place d)) ≡ o → Changes o m.top (leave_by (top_place d)) r m'.top → Done o m Leave p r m'
   leave_done holds r m' taken (Some e) is changed = refused_done m m' Leave p e r joined changed.0 (same_pile m m' changed.1 taken.1 taken.2)
   leave_done holds r m' taken None is changed =
       let sides = top_taken m m' (leave_by (top_place d)) r taken in
@@ -208,12 +212,12 @@ module _ (m : Meanings) (formed : Formed m) (joined : Joined m) (d : Side) (i p 
   at_refusal : (k : Kind) (r : Reply) (m' : Meanings) (o : Option Refusal) → refusal_of (pile_meaning m) (call k p) ≡ o → Done o m k p r m' → Outcome k r m'
   at_refusal k r m' o is done = subst (λ (x : Option Refusal). Done x m k p r m') (sym is) done
 
-  side_outcome : (r : Reply) (m' : Meanings) → ((side_of d m).phase i ≢ Holding) → SideSteps Altered Altered Altered d i m r m' → Outcome Step r m'
+  side_outcome : (r : Reply) (m' : Meanings) → ((side_of d m).phase i ≢ Holding) → SideSteps altering altering altering d i m r m' → Outcome Step r m'
   side_outcome r m' below steps =
       at_refusal Step r m' (refusal_of (side_of d m) (step_by i)) (below_alike below)
       (side_done steps.0 r steps.1 m' steps.2 steps.3 (refusal_of (side_of d m) (step_by i)) (side_taken d m steps.1 (step_by i) steps.0 steps.2).0.0)
 
-  top_outcome : (r : Reply) (m' : Meanings) → (side_of d m).phase i ≡ Holding → TopSteps Altered Altered Altered d i m r m' → Outcome Step r m'
+  top_outcome : (r : Reply) (m' : Meanings) → (side_of d m).phase i ≡ Holding → TopSteps altering altering altering d i m r m' → Outcome Step r m'
   top_outcome r m' holds steps =
       at_refusal Step r m' (refusal_of m.top (step_by (top_place d))) (above_alike Step (λ b b'. refl) holds)
       (top_done holds steps.0 r steps.1 m' steps.2 steps.3 (refusal_of m.top (step_by (top_place d))) steps.2.0.0)
@@ -221,13 +225,13 @@ module _ (m : Meanings) (formed : Formed m) (joined : Joined m) (d : Side) (i p 
   wrong_phase : (r : Reply) (m' : Meanings) → ((side_of d m).phase i ≢ Holding) → fits Leave ((side_of d m).phase i) ≡ false → (r ≡ Err WrongPhase) × (m' ≡ m) → Outcome Leave r m'
   wrong_phase r m' below unfit refused = at_refusal Leave r m' (Some WrongPhase) (leave_refused below unfit) (refused_done m m' Leave p WrongPhase r joined refused.0 refused.1)
 
-  step_outcome : (r : Reply) (m' : Meanings) (f : Phase) → (side_of d m).phase i ≡ f → StepAt Altered Altered Altered f d i m r m' → Outcome Step r m'
+  step_outcome : (r : Reply) (m' : Meanings) (f : Phase) → (side_of d m).phase i ≡ f → StepAt altering altering altering f d i m r m' → Outcome Step r m'
   step_outcome r m' Out is steps = side_outcome r m' (λ (h : (side_of d m).phase i ≡ Holding). let z : ◌≡◌ {A = ℕ} 0 1 = cc in omega arith) steps
   step_outcome r m' Bidding is steps = side_outcome r m' (λ (h : (side_of d m).phase i ≡ Holding). let z : ◌≡◌ {A = ℕ} 0 1 = cc in omega arith) steps
   step_outcome r m' Holding is steps = top_outcome r m' is steps
   step_outcome r m' Leaving is steps = side_outcome r m' (λ (h : (side_of d m).phase i ≡ Holding). let z : ◌≡◌ {A = ℕ} 0 1 = cc in omega arith) steps
 
-  leave_outcome : (r : Reply) (m' : Meanings) (f : Phase) → (side_of d m).phase i ≡ f → LeaveAt Altered Altered Altered f d m r m' → Outcome Leave r m'
+  leave_outcome : (r : Reply) (m' : Meanings) (f : Phase) → (side_of d m).phase i ≡ f → LeaveAt altering altering altering f d m r m' → Outcome Leave r m'
   leave_outcome r m' Out is refused = wrong_phase r m' (λ (h : (side_of d m).phase i ≡ Holding). let z : ◌≡◌ {A = ℕ} 0 1 = cc in omega arith) (ap (fits Leave) is) refused
   leave_outcome r m' Bidding is refused = wrong_phase r m' (λ (h : (side_of d m).phase i ≡ Holding). let z : ◌≡◌ {A = ℕ} 0 1 = cc in omega arith) (ap (fits Leave) is) refused
   leave_outcome r m' Holding is taken =
@@ -235,17 +239,17 @@ module _ (m : Meanings) (formed : Formed m) (joined : Joined m) (d : Side) (i p 
       (leave_done is r m' taken (refusal_of m.top (leave_by (top_place d))) refl taken.0.0)
   leave_outcome r m' Leaving is refused = wrong_phase r m' (λ (h : (side_of d m).phase i ≡ Holding). let z : ◌≡◌ {A = ℕ} 0 1 = cc in omega arith) (ap (fits Leave) is) refused
 
-  outcome_at : (k : Kind) (r : Reply) (m' : Meanings) → CallAt Altered Altered Altered m k d i m r m' → Outcome k r m'
+  outcome_at : (k : Kind) (r : Reply) (m' : Meanings) → CallAt altering altering altering m k d i m r m' → Outcome k r m'
   outcome_at Bid r m' taken = at_refusal Bid r m' bid_refusal bid_refused_alike (bid_done r m' bid_refusal refl taken)
   outcome_at Step r m' taken = step_outcome r m' ((side_of d m).phase i) refl taken
   outcome_at Leave r m' taken = leave_outcome r m' ((side_of d m).phase i) refl taken
 
 module _ (m m' : Meanings) (formed : Formed m) (joined : Joined m) (c : Call) (r : Reply) where
-  outcome_of : (b : Option (Side × ℕ)) → found m c.place ≡ b → CallOf Altered Altered Altered m b c.kind m r m' → Done (refusal_of (pile_meaning m) c) m c.kind c.place r m'
+  outcome_of : (b : Option (Side × ℕ)) → found m c.place ≡ b → CallOf altering altering altering m b c.kind m r m' → Done (refusal_of (pile_meaning m) c) m c.kind c.place r m'
   outcome_of None is refused =
       let past = le-leb (pile_places m) c.place (none_found m (formed.sides Left).few_places c.place is) in
       rw past (refused_done m m' c.kind c.place NoPlace r joined refused.0 refused.1)
   outcome_of (Some b) is taken = outcome_at m formed joined b.0 b.1 c.place is c.kind r m' taken
 
-  pub pile_outcome : PileTakes Altered Altered Altered (λ x. x) m c r m' → Changes (refusal_of (pile_meaning m) c) (pile_meaning m) c r (pile_meaning m') × Joined m'
+  pub pile_outcome : PileTakes altering altering altering m c r m' → Changes (refusal_of (pile_meaning m) c) (pile_meaning m) c r (pile_meaning m') × Joined m'
   pile_outcome taken = outcome_of (found m c.place) refl taken
