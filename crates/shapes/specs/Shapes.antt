@@ -1,12 +1,11 @@
 -- What the piles that are offered mean, and what they are just made. Assumes nothing.
-use Rattle.lock.specs.Meaning.{Meaning}
+use Rattle.lock.specs.Meaning.{Meaning, Form}
 use Rattle.leaf.specs.declared.bye.Bye.{Bye}
 use Rattle.leaf.specs.declared.peterson.Peterson.{Peterson}
-use Rattle.leaf.specs.ByeLines.{bye_meaning, ByeTakes, bye_made}
-use Rattle.leaf.specs.PetersonLines.{peterson_meaning, PetersonTakes, peterson_made}
+use Rattle.leaf.specs.ByeLines.{bye_made, bye_form}
+use Rattle.leaf.specs.PetersonLines.{peterson_made, peterson_form}
 use Rattle.pile.specs.declared.Pile.{Pile}
-use Rattle.pile.specs.Forms.{Form, form, piled}
-use Rattle.pile.specs.PileCalls.{pile_means}
+use Rattle.pile.specs.Forms.{piled}
 
 -- Peterson's lock over two of its kind: four boxes
 abbrev pub Four : Type 0
@@ -20,31 +19,7 @@ Eight = Pile Peterson Four Four
 abbrev pub Three : Type 0
 Three = Pile Peterson Bye Peterson
 
-abbrev pub four_means : Four → Meaning
-four_means = pile_means peterson_meaning peterson_meaning peterson_meaning
-
-abbrev pub eight_means : Eight → Meaning
-eight_means = pile_means peterson_meaning four_means four_means
-
-abbrev pub three_means : Three → Meaning
-three_means = pile_means peterson_meaning bye_meaning peterson_meaning
-
-abbrev pub four_made : Four
-four_made = record { top = peterson_made; left = peterson_made; right = peterson_made }
-
-abbrev pub eight_made : Eight
-eight_made = record { top = peterson_made; left = four_made; right = four_made }
-
-abbrev pub three_made : Three
-three_made = record { top = peterson_made; left = bye_made; right = peterson_made }
-
--- the locks by what they mean, what their calls do and what they are just made
-
-abbrev pub bye_form : Form Bye
-bye_form = form bye_meaning ByeTakes (λ s. bye_made)
-
-abbrev pub peterson_form : Form Peterson
-peterson_form = form peterson_meaning PetersonTakes (λ s. peterson_made)
+-- the piles by what they mean, what their calls do and what they are just made
 
 abbrev pub four_form : Form Four
 four_form = piled peterson_form peterson_form peterson_form
@@ -54,3 +29,21 @@ eight_form = piled peterson_form four_form four_form
 
 abbrev pub three_form : Form Three
 three_form = piled peterson_form bye_form peterson_form
+
+abbrev pub four_means : Four → Meaning
+four_means = four_form.meaning
+
+abbrev pub eight_means : Eight → Meaning
+eight_means = eight_form.meaning
+
+abbrev pub three_means : Three → Meaning
+three_means = three_form.meaning
+
+abbrev pub four_made : Four
+four_made = record { top = peterson_made; left = peterson_made; right = peterson_made }
+
+abbrev pub eight_made : Eight
+eight_made = record { top = peterson_made; left = four_made; right = four_made }
+
+abbrev pub three_made : Three
+three_made = record { top = peterson_made; left = bye_made; right = peterson_made }

@@ -1,6 +1,5 @@
 ghost use Rattle.std.specs.Prelude.{◌≡◌, [], ◌∷◌};
 ghost use Rattle.lock.specs.declared.Answer.TheVariants.{Waits, Moves, Enters, Out as Gone};
-ghost use Rattle.lock.specs.declared.Reply.TheVariants.{Taken, Answered};
 ghost use Rattle.shapes.specs.Shapes.{eight_means, three_means};
 
 use super::{PileFour, PileSix};
@@ -11,7 +10,7 @@ use pile::Pile;
 /// Box 0 of a new pile of Peterson's lock over two byes bids, enters, leaves and is out, with
 /// nobody else there.
 pub fn lone_box_of_a_pile_comes_and_goes() -> [Reply; 9]
-    ensures { result ≡ Taken ∷ (Answered Moves ∷ (Answered Moves ∷ (Answered Moves ∷ (Answered Waits ∷ (Answered Enters ∷ (Taken ∷ (Answered Moves ∷ (Answered Gone ∷ [])))))))) }
+    ensures { result ≡ Ok None ∷ (Ok (Some Moves) ∷ (Ok (Some Moves) ∷ (Ok (Some Moves) ∷ (Ok (Some Waits) ∷ (Ok (Some Enters) ∷ (Ok None ∷ (Ok (Some Moves) ∷ (Ok (Some Gone) ∷ [])))))))) }
 {
     let mut pile = Pile::new(Peterson::new(), Bye::new(), Bye::new());
     let step = Call {

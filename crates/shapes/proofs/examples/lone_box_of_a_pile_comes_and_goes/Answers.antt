@@ -3,10 +3,9 @@ use Rattle.lock.specs.declared.Call.{Call}
 use Rattle.lock.specs.Calls.{bid_by, step_by, leave_by}
 use Rattle.leaf.specs.declared.bye.Bye.{Bye}
 use Rattle.leaf.specs.declared.peterson.Peterson.{Peterson}
-use Rattle.leaf.specs.ByeLines.{bye_meaning, ByeTakes, bye_made}
-use Rattle.leaf.specs.PetersonLines.{peterson_meaning, PetersonTakes, peterson_made}
+use Rattle.leaf.specs.ByeLines.{bye_made, bye_form}
+use Rattle.leaf.specs.PetersonLines.{peterson_made, peterson_form}
 use Rattle.pile.specs.declared.Pile.{Pile}
-use Rattle.pile.specs.Finding.{Meanings}
 use Rattle.pile.specs.PileCalls.{meanings, PileTakes}
 use Rattle.lock.proofs.Runs.{Ran, Runs, follows}
 use Rattle.leaf.proofs.LeafRuns.{bye_run, bye_runs, peterson_run, peterson_runs}
@@ -16,14 +15,11 @@ use Rattle.shapes.proofs.examples.lone_box_of_a_pile_comes_and_goes.Goals as goa
 abbrev Three : Type 0
 Three = Pile Peterson Bye Bye
 
-abbrev means : Three → Meanings
-means = meanings peterson_meaning bye_meaning bye_meaning
-
 abbrev run : Three → Call → Ran Three
-run = pile_run peterson_run bye_run bye_run means
+run = pile_run peterson_run bye_run bye_run (meanings peterson_form bye_form bye_form)
 
-runs : Runs (PileTakes PetersonTakes ByeTakes ByeTakes means) run
-runs = pile_runs peterson_run bye_run bye_run peterson_runs bye_runs bye_runs means
+runs : Runs (PileTakes peterson_form bye_form bye_form) run
+runs = pile_runs peterson_run bye_run bye_run peterson_form bye_form bye_form peterson_runs bye_runs bye_runs
 
 abbrev new : Three
 new = record { top = peterson_made; left = bye_made; right = bye_made }
