@@ -6,7 +6,7 @@ use Rattle.std.proofs.lemmas.Bool.{le-ltb}
 use Rattle.std.specs.List.{slice_get, AllByRecursion}
 use Rattle.lock.specs.declared.Call.{Call}
 use Rattle.lock.specs.Calls.{Reply}
-use Rattle.lock.specs.Meaning.{Meaning}
+use Rattle.lock.specs.Meaning.{Form}
 use Rattle.lock.specs.Pasts.{Event, Run, Past, Economy, is_entry, work, stretches}
 use Rattle.record.specs.declared.call.BusCall.{BusCall}
 use Rattle.record.specs.declared.call.BusKind.TheVariants.{Bid}
@@ -61,11 +61,11 @@ gap_within : (M : ℕ) (ss : List (List Event)) → AllByRecursion (λ stretch. 
 gap_within M [] h = omega arith
 gap_within M (s ∷ ss) h = omega (arith, h.0, gap_within M ss h.1)
 
-module _ {L : Type 0} (meaning : L → Meaning) (takes : L → Call → Reply → L → Type 0) (made : L → L) where
+module _ {L : Type 0} (F : Form L) where
   -- after the first calls of a record, so many, from the lock s on
   pub record SoFar (s t : L) (start : Reading) (number : ℕ) (log₀ log : List Entry) (tally : Tally) (reader : Reading) : Type 0 where
     pub events : List Event
-    pub run : Run meaning takes made s events t
+    pub run : Run F s events t
     pub long : length events ≡ number
     pub calls : calls_made events ≡ take number (record_calls start.bytes)
     pub placed : Placed events
@@ -129,7 +129,7 @@ module _ {L : Type 0} (meaning : L → Meaning) (takes : L → Call → Reply �
             let further : 16 + 2 * number + 2 ≡ 16 + 2 * (number + 1) = omega arith in
             from ∙ rw within (ap (λ (k : ℕ). at_byte k start) further)
 
-        pub one_more : (c : BusCall) → r ≡ Some c → (d : Call) → d ≡ lock_call c → (u : L) (reply : Reply) (log' : List Entry) (tally' : Tally) → takes t d reply u → tally' ≡ noted tally d reply → log' ≡ log_after log tally.counts.enters number d reply → SoFar s u start (number + 1) log₀ log' tally' after
+        pub one_more : (c : BusCall) → r ≡ Some c → (d : Call) → d ≡ lock_call c → (u : L) (reply : Reply) (log' : List Entry) (tally' : Tally) → F.takes t d reply u → tally' ≡ noted tally d reply → log' ≡ log_after log tally.counts.enters number d reply → SoFar s u start (number + 1) log₀ log' tally' after
         one_more c is d asked u reply log' tally' took counted logs =
             let e : Event = record { call = d; reply = reply } in
             let next-call : take (number + 1) (record_calls start.bytes) ≡ take number (record_calls start.bytes) ++ (lock_call c ∷ []) = rw add-one (take_mapped (calls_in start.bytes) number c (sym numbered ∙ is)) in
@@ -148,9 +148,9 @@ module _ {L : Type 0} (meaning : L → Meaning) (takes : L → Call → Reply �
             }
 
     -- the calls of a whole record make the past that is reported
-    pub all_made : (t : L) (number : ℕ) (log : List Entry) (tally : Tally) (reader : Reading) → SoFar s t start number log₀ log tally reader → start.call_count ≤ number → number ≤ start.call_count → (lock : L) → s ≡ made lock → Economy meaning takes made → (n : ℕ) → n ≡ reader.call_count → (summary : Summary) → summary ≡ summarized n tally → Replayed meaning takes made lock t start.bytes log₀ log summary
+    pub all_made : (t : L) (number : ℕ) (log : List Entry) (tally : Tally) (reader : Reading) → SoFar s t start number log₀ log tally reader → start.call_count ≤ number → number ≤ start.call_count → (lock : L) → s ≡ F.made lock → Economy F → (n : ℕ) → n ≡ reader.call_count → (summary : Summary) → summary ≡ summarized n tally → Replayed F lock t start.bytes log₀ log summary
     all_made t number log tally reader so_far done ends lock is economy n counted summary sums =
-        let past : Past meaning takes made lock so_far.events t = subst (λ (x : L). Run meaning takes made x so_far.events t) is so_far.run in
+        let past : Past F lock so_far.events t = subst (λ (x : L). Run F x so_far.events t) is so_far.run in
         let all = take_all number (record_calls start.bytes) (omega (arith, done, at_start.counted, at_start.sound.counted, length-map (calls_in start.bytes) lock_call)) in
         let many : n ≡ length so_far.events = omega (arith, counted, ap (λ (x : Reading). x.call_count) so_far.reader_is, done, ends, so_far.long) in
         let report : summary ≡ summary_of so_far.events = sums ∙ ap (summarized n) so_far.tally_is ∙ (λ i. record { calls = many i; counts = counts_of so_far.events; gap = gap so_far.events; passed = passed_is so_far.events so_far.placed i }) in
@@ -164,5 +164,5 @@ module _ {L : Type 0} (meaning : L → Meaning) (takes : L → Call → Reply �
           room = omega (arith, enters, count_le (λ e. is_entry e.reply) so_far.events, entries_counted so_far.events, so_far.long, ends, slots);
           front = rw enters (ap (take (length (entries so_far.events))) so_far.log_is ∙ take_at (entries so_far.events) _ (length (entries so_far.events)) refl);
           report = report;
-          within = omega (arith, gap_is, gap_within (meaning lock).call_limit (stretches so_far.events) (economy lock so_far.events t past));
+          within = omega (arith, gap_is, gap_within (F.meaning lock).call_limit (stretches so_far.events) (economy lock so_far.events t past));
         }

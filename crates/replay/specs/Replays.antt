@@ -4,7 +4,7 @@ use Rattle.lock.specs.declared.Call.{Call}
 use Rattle.lock.specs.declared.Kind.{Kind}
 use Rattle.lock.specs.declared.Kind.TheVariants.{Bid, Step, Leave}
 use Rattle.lock.specs.Calls.{Reply}
-use Rattle.lock.specs.Meaning.{Meaning}
+use Rattle.lock.specs.Meaning.{Form}
 use Rattle.lock.specs.Pasts.{Event, Past}
 use Rattle.record.specs.declared.call.BusCall.{BusCall}
 use Rattle.record.specs.declared.call.BusKind.{BusKind}
@@ -53,12 +53,12 @@ pub record AtStart (r : Reading) : Type 0 where
   pub counted : r.call_count ≡ call_count_in r.bytes
   pub cursor : r.cursor ≡ 16
 
-module _ {L : Type 0} (meaning : L → Meaning) (takes : L → Call → Reply → L → Type 0) (made : L → L) where
+module _ {L : Type 0} (F : Form L) where
   -- a record was replayed on the lock s and left t: there is a past of s that is made of exactly
   -- the record's calls in their order, ends in t, and is what log and summary report
   pub record Replayed (s t : L) (bs : List ℕ) (log log' : List Entry) (summary : Summary) : Type 0 where
     pub events : List Event
-    pub past : Past meaning takes made s events t
+    pub past : Past F s events t
     pub calls : calls_made events ≡ record_calls bs
     pub entries : log' ≡ logged events log
     -- the entries are the front of the log, as many as are counted
@@ -66,9 +66,9 @@ module _ {L : Type 0} (meaning : L → Meaning) (takes : L → Call → Reply �
     pub front : take summary.counts.enters log' ≡ entries_of events
     pub report : summary ≡ summary_of events
     -- the gap is within M
-    pub within : summary.gap ≤ (meaning s).call_limit
+    pub within : summary.gap ≤ (F.meaning s).call_limit
 
   -- refused with the first test that fails, and then lock and log are what they were; or replayed
   abbrev pub Outcome : L → L → List ℕ → List Entry → List Entry → Result Summary ReplayFault → Type 0
-  Outcome s t bs log log' (Err e) = (replay_test (meaning s).places (length log) bs ≡ Err e) × (t ≡ s) × (log' ≡ log)
-  Outcome s t bs log log' (Ok summary) = (replay_test (meaning s).places (length log) bs ≡ Ok tt) × Replayed s t bs log log' summary
+  Outcome s t bs log log' (Err e) = (replay_test (F.meaning s).places (length log) bs ≡ Err e) × (t ≡ s) × (log' ≡ log)
+  Outcome s t bs log log' (Ok summary) = (replay_test (F.meaning s).places (length log) bs ≡ Ok tt) × Replayed s t bs log log' summary

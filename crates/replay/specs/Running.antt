@@ -15,9 +15,6 @@ use Rattle.replay.specs.Reports.{is_bid_taken, is_leave_taken, is_move, is_out}
 abbrev pub one_if : Bool → ℕ
 one_if t = cond t 1 0
 
-abbrev pub no_counts : Counts
-no_counts = record { bids = 0; leaves = 0; waits = 0; moves = 0; enters = 0; outs = 0; refused = 0 }
-
 abbrev pub counted : Counts → Kind → Reply → Counts
 counted c k r =
     record {
@@ -40,10 +37,7 @@ pub record Room (c : Counts) : Type 0 where
   pub outs : c.outs < 1000000
   pub refused : c.refused < 1000000
 
--- the stretch that goes on, and the longest so far
-abbrev pub no_stretch : Stretch
-no_stretch = record { length = 0; longest = 0 }
-
+-- the length of the stretch that goes on, in calls that neither wait nor enter
 abbrev pub length_after : ℕ → Reply → ℕ
 length_after n r = cond (is_entry r) 0 (n + work_of r)
 
@@ -87,9 +81,6 @@ waited w c r =
 -- the most entries that any place has waited through, those still waiting among them
 abbrev pub most_waited : Waiting → ℕ
 most_waited w = fold (λ n o. max n (since w.entries o)) w.most w.before
-
-abbrev pub no_tally : Tally
-no_tally = record { counts = no_counts; stretch = no_stretch; waiting = none_waiting }
 
 -- one call more
 abbrev pub noted : Tally → Call → Reply → Tally

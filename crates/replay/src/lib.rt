@@ -39,13 +39,14 @@ fn make_call<L: Lock>(
     tally: &mut Tally,
     log: &mut [Entry],
 ) -> Reply
-    requires { (Ready tally.old call) × (tally.old.counts.enters < length log.old) }
-    ensures outcome { L.takes lock.old call result lock.new }
+    requires ready { Ready tally.old call }
+    requires slot { tally.old.counts.enters < length log.old }
+    ensures outcome { L.form.takes lock.old call result lock.new }
     ensures count { tally.new ≡ noted tally.old call result }
     ensures entry { log.new ≡ log_after log.old tally.old.counts.enters number call result }
 {
     let reply = call_on(lock, call);
-    if let Reply::Answered(Answer::Enters) = reply {
+    if let Ok(Some(Answer::Enters)) = reply {
         log[tally.entries()] = Entry {
             call: number,
             place: call.place,
@@ -55,26 +56,21 @@ fn make_call<L: Lock>(
     reply
 }
 
-// The lock as its making left it.
-fn make_anew<L: Lock>(lock: &mut L)
-    ensures { lock.new ≡ L.made lock.old }
-{
-    lock.put_back();
-}
-
 // Puts the lock back and makes each call of a record that has passed its tests.
 fn make_calls<L: Lock>(lock: &mut L, mut reader: Reader<'_>, log: &mut [Entry]) -> Summary
-    requires { (AtStart (reading reader)) × ((reading reader).call_count ≤ length log.old) }
-    ensures { Replayed L.meaning L.takes L.made lock.old lock.new (reading reader.entry).bytes log.old log.new result }
+    requires start { AtStart (reading reader) }
+    requires slots { (reading reader).call_count ≤ length log.old }
+    ensures { Replayed L.form lock.old lock.new (reading reader.entry).bytes log.old log.new result }
 {
-    make_anew(lock);
-    let mut tally = Tally::none();
+    lock.put_back();
+    let mut tally = Tally::default();
     for number in 0..reader.calls() {
         // There are as many calls as the header says.
         let Some(call) = reader.next_call() else {
             unreachable()
         };
-        make_call(lock, call_asked(call), number, &mut tally, log);
+        // The tally has counted the reply.
+        let _ = make_call(lock, call_asked(call), number, &mut tally, log);
     }
     tally.summary(reader.calls())
 }
@@ -90,8 +86,8 @@ pub fn replay<L: Lock>(
     bytes: &[u8],
     log: &mut [Entry],
 ) -> Result<Summary, ReplayFault>
-    ensures outcome { Outcome L.meaning L.takes L.made lock.old lock.new bytes.now log.old log.new result }
-    ensures promises { Promises L.meaning L.takes L.made }
+    ensures outcome { Outcome L.form lock.old lock.new bytes.now log.old log.new result }
+    ensures promises { Promises L.form }
 {
     let reader = Reader::open(bytes)?;
     if lock.places() != reader.places() {

@@ -1,5 +1,5 @@
 /// One slot of the log: the number of a call that entered, and its place.
-#[derive(Clone, Copy)]
+#[derive(Clone, Copy, Debug, PartialEq, Eq)]
 pub struct Entry {
     pub call: usize,
     pub place: usize,
@@ -7,7 +7,7 @@ pub struct Entry {
 
 /// How many calls of a replay returned what: accepted bids and leaves, the four answers of a step,
 /// and refused calls.
-#[derive(Clone, Copy)]
+#[derive(Clone, Copy, Debug, Default, PartialEq, Eq)]
 pub struct Counts {
     pub bids: usize,
     pub leaves: usize,
@@ -19,7 +19,7 @@ pub struct Counts {
 }
 
 /// What a replay reports.
-#[derive(Clone, Copy)]
+#[derive(Clone, Copy, Debug, PartialEq, Eq)]
 pub struct Summary {
     /// How many calls the record has.
     pub calls: usize,

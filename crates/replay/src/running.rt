@@ -1,71 +1,46 @@
 ghost use Rattle.std.specs.Prelude.{◌≡◌, ◌<◌, max, fold};
-ghost use Rattle.replay.specs.Running.{no_counts, counted, Room, no_stretch, stretched, since, none_waiting, bidden, entered, waited, most_waited, no_tally, noted, Ready, summarized};
+ghost use Rattle.replay.specs.Running.{counted, Room, stretched, since, none_waiting, waited, most_waited, noted, Ready, summarized};
 
 use super::report::{Counts, Summary};
 use lock::{Answer, Call, Kind, Reply};
 
 impl Counts {
-    // No calls yet.
-    pub(crate) fn none() -> Counts
-        ensures { result ≡ no_counts }
-    {
-        Counts {
-            bids: 0,
-            leaves: 0,
-            waits: 0,
-            moves: 0,
-            enters: 0,
-            outs: 0,
-            refused: 0,
-        }
-    }
-
     // One call more.
     pub(crate) fn note(&mut self, kind: Kind, reply: Reply)
         requires { Room self.old }
         ensures { self.new ≡ counted self.old kind reply }
     {
         match reply {
-            Reply::Taken => match kind {
+            Ok(None) => match kind {
                 Kind::Bid => self.bids += 1,
                 Kind::Step => {}
                 Kind::Leave => self.leaves += 1,
             },
-            Reply::Answered(Answer::Waits) => self.waits += 1,
-            Reply::Answered(Answer::Moves) => self.moves += 1,
-            Reply::Answered(Answer::Enters) => self.enters += 1,
-            Reply::Answered(Answer::Out) => self.outs += 1,
-            Reply::Refused(_) => self.refused += 1,
+            Ok(Some(Answer::Waits)) => self.waits += 1,
+            Ok(Some(Answer::Moves)) => self.moves += 1,
+            Ok(Some(Answer::Enters)) => self.enters += 1,
+            Ok(Some(Answer::Out)) => self.outs += 1,
+            Err(_) => self.refused += 1,
         }
     }
 }
 
 // How long the stretch that goes on is, in calls that neither wait nor enter, and the longest so far.
-#[derive(Clone, Copy)]
+#[derive(Clone, Copy, Default)]
 pub(crate) struct Stretch {
     length: usize,
     longest: usize,
 }
 
 impl Stretch {
-    pub(crate) fn none() -> Stretch
-        ensures { result ≡ no_stretch }
-    {
-        Stretch {
-            length: 0,
-            longest: 0,
-        }
-    }
-
     pub(crate) fn note(&mut self, reply: Reply)
         requires { self.old.length < 1000000 }
         ensures { self.new ≡ stretched self.old reply }
     {
         match reply {
-            Reply::Taken | Reply::Answered(Answer::Moves) | Reply::Answered(Answer::Out) =>
-                self.length += 1,
-            Reply::Answered(Answer::Enters) => self.length = 0,
-            Reply::Answered(Answer::Waits) | Reply::Refused(_) => {}
+            Ok(None | Some(Answer::Moves | Answer::Out)) => self.length += 1,
+            Ok(Some(Answer::Enters)) => self.length = 0,
+            Ok(Some(Answer::Waits)) | Err(_) => {}
         }
         self.longest = self.longest.max(self.length);
     }
@@ -88,67 +63,50 @@ pub(crate) struct Waiting {
     most: usize,
 }
 
-// The entries since a bid before which there were so many; none where there is no bid.
-fn entries_since(entries: usize, before: Option<usize>) -> usize
-    ensures { result ≡ since entries before }
-{
-    match before {
-        Some(before) => entries.saturating_sub(before),
-        None => 0,
-    }
-}
+// By hand, so that its contract gives the whole array.
+impl Default for Waiting {
+    ghost is_default = { λ w. w ≡ none_waiting };
 
-// The most of `most` and of the entries since each of these bids.
-fn most_since(entries: usize, mut most: usize, bids: &[Option<usize>]) -> usize
-    ensures { result ≡ fold (λ n o. max n (since entries o)) most bids.now }
-{
-    for before in bids {
-        most = most.max(entries_since(entries, *before));
-    }
-    most
-}
-
-impl Waiting {
-    pub(crate) fn none() -> Waiting
-        ensures { result ≡ none_waiting }
-    {
+    fn default() -> Waiting {
         Waiting {
             entries: 0,
             before: [None; 64],
             most: 0,
         }
     }
+}
 
+// The entries since a bid before which there were so many; none where there is no bid.
+fn entries_since(entries: usize, before: Option<usize>) -> usize
+    ensures { result ≡ since entries before }
+{
+    before.map_or(0, |before| entries.saturating_sub(before))
+}
+
+// The most of `most` and of the entries since each of these bids.
+fn most_since(entries: usize, most: usize, bids: &[Option<usize>]) -> usize
+    ensures { result ≡ fold (λ n o. max n (since entries o)) most bids.now }
+{
+    bids.iter().fold(most, |most, before| most.max(entries_since(entries, *before)))
+}
+
+impl Waiting {
     pub(crate) fn note(&mut self, call: Call, reply: Reply)
-        requires { (call.place < 64) × (self.old.entries < 1000000) }
+        requires placed { call.place < 64 }
+        requires room { self.old.entries < 1000000 }
         ensures { self.new ≡ waited self.old call reply }
     {
         match (call.kind, reply) {
-            (Kind::Bid, Reply::Taken) => self.note_bid(call.place),
-            (_, Reply::Answered(Answer::Enters)) => self.note_entry(call.place),
+            (Kind::Bid, Ok(None)) => {
+                self.before[call.place] = self.before[call.place].or(Some(self.entries));
+            }
+            (_, Ok(Some(Answer::Enters))) => {
+                let before = self.before[call.place].take();
+                self.most = self.most.max(entries_since(self.entries, before));
+                self.entries += 1;
+            }
             _ => {}
         }
-    }
-
-    fn note_bid(&mut self, place: usize)
-        requires { place < 64 }
-        ensures { self.new ≡ bidden self.old place }
-    {
-        let before = match self.before[place] {
-            Some(before) => before,
-            None => self.entries,
-        };
-        self.before[place] = Some(before);
-    }
-
-    fn note_entry(&mut self, place: usize)
-        requires { (place < 64) × (self.old.entries < 1000000) }
-        ensures { self.new ≡ entered self.old place }
-    {
-        let through = entries_since(self.entries, self.before[place]);
-        self.most = self.most.max(through);
-        self.before[place] = None;
-        self.entries += 1;
     }
 
     pub(crate) fn most(&self) -> usize
@@ -159,7 +117,7 @@ impl Waiting {
 }
 
 // All that a replay counts while the calls are made.
-#[derive(Clone, Copy)]
+#[derive(Clone, Copy, Default)]
 pub(crate) struct Tally {
     counts: Counts,
     stretch: Stretch,
@@ -167,16 +125,6 @@ pub(crate) struct Tally {
 }
 
 impl Tally {
-    pub(crate) fn none() -> Tally
-        ensures { result ≡ no_tally }
-    {
-        Tally {
-            counts: Counts::none(),
-            stretch: Stretch::none(),
-            waiting: Waiting::none(),
-        }
-    }
-
     pub(crate) fn note(&mut self, call: Call, reply: Reply)
         requires { Ready self.old call }
         ensures { self.new ≡ noted self.old call reply }

@@ -6,4 +6,4 @@ use Rattle.replay.proofs.make_calls.Given as goal
 abbrev pub invariant-loop-number : goal.invariant-loop-number
 invariant-loop-number g l =
     let k = g.L.Lock in
-    SoFar k.meaning k.takes k.made l.initial.lock l.lock (reading l.initial.reader) l.number l.initial.log l.log l.tally (reading l.reader)
+    SoFar k.form l.initial.lock l.lock (reading l.initial.reader) l.number l.initial.log l.log l.tally (reading l.reader)

@@ -28,18 +28,16 @@ returns-then-log-calls g c =
       promises = promises g.met.L.Lock.keeps;
     }
 
-pub make_calls-requires : goal.make_calls-requires
-make_calls-requires g c = (
-  at_start c.args.bytes.now c.in_ok-reader.reader c.in_ok-reader.ensures.outcome c.in_ok-reader.ensures.sound,
-  omega (arith, c.if-log-calls.false, c.calls.ensures),
-)
+pub make_calls-requires-clause-start : goal.make_calls-requires-clause-start
+make_calls-requires-clause-start g c =
+    at_start c.args.bytes.now c.in_ok-reader.reader c.in_ok-reader.ensures.outcome c.in_ok-reader.ensures.sound
 
 pub returns : goal.returns
 returns g c =
     record {
       outcome = (
         accepted c.args.bytes.now c.in_ok-reader.reader c.in_ok-reader.ensures.outcome _ _ (sym c.places.ensures.value ∙ c.if-places.false ∙ c.places-2.ensures) (omega (arith, c.if-log-calls.false, c.calls.ensures)),
-        subst (λ (bs : List ℕ). Replayed g.L.Lock.meaning g.L.Lock.takes g.L.Lock.made c.args.lock.now c.make_calls.new.lock bs c.args.log.now c.make_calls.new.log c.make_calls.result) (bytes_same c.args.bytes.now c.in_ok-reader.reader c.in_ok-reader.ensures.outcome) c.make_calls.ensures,
+        subst (λ (bs : List ℕ). Replayed g.L.Lock.form c.args.lock.now c.make_calls.new.lock bs c.args.log.now c.make_calls.new.log c.make_calls.result) (bytes_same c.args.bytes.now c.in_ok-reader.reader c.in_ok-reader.ensures.outcome) c.make_calls.ensures,
       );
       promises = promises g.met.L.Lock.keeps;
     }
