@@ -11,6 +11,7 @@ pub fn lone_peterson_box_moves_moves_waits_enters() -> ([Reply; 5], Peterson)
     ensures replies { result.0 ≡ Ok None ∷ (Ok (Some Moves) ∷ (Ok (Some Moves) ∷ (Ok (Some Waits) ∷ (Ok (Some Enters) ∷ [])))) }
     ensures registers { (peterson_meaning result.1).registers ≡ 1 ∷ (0 ∷ (1 ∷ [])) }
 {
+    // Call by call, since of a lock that a closure borrowed the registers are not known.
     let mut lock = Peterson::new();
     let step = Call {
         kind: Kind::Step,

@@ -12,6 +12,7 @@ use pile::Pile;
 pub fn lone_box_of_a_pile_comes_and_goes() -> [Reply; 9]
     ensures { result ≡ Ok None ∷ (Ok (Some Moves) ∷ (Ok (Some Moves) ∷ (Ok (Some Moves) ∷ (Ok (Some Waits) ∷ (Ok (Some Enters) ∷ (Ok None ∷ (Ok (Some Moves) ∷ (Ok (Some Gone) ∷ [])))))))) }
 {
+    // Call by call, since the replies of a closure over the calls are not proved.
     let mut pile = Pile::new(Peterson::new(), Bye::new(), Bye::new());
     let step = Call {
         kind: Kind::Step,
