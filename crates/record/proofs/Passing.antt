@@ -4,10 +4,11 @@ use Rattle.std.specs.List.{AllByRecursion}
 use Rattle.std.proofs.lemmas.List.{take_rest, take-append-drop, drop-drop, length-map}
 use Rattle.std.proofs.lemmas.Bool.{or_parts, ltb-false, leb-false, not-false, eqb-true}
 use Rattle.std.proofs.lemmas.Bool.Decides.{nat_tests}
+use Rattle.lock.specs.Kinds.{kind_number}
 use Rattle.record.specs.declared.faults.RecordFault.{RecordFault}
 use Rattle.record.specs.declared.reader.Header.{Header}
 use Rattle.record.specs.Checks.{header_test, call_test, calls_test, reading_test}
-use Rattle.record.specs.Layout.{number_bytes, places_in, call_count_in, offset_in, length_in, kind_of, kind_byte, calls_of, calls_in, call_bytes, raw_call, encode}
+use Rattle.record.specs.Layout.{number_bytes, places_in, call_count_in, offset_in, length_in, kind_of, calls_of, calls_in, call_bytes, raw_call, encode}
 use Rattle.record.specs.Readers.{header_read}
 use Rattle.record.specs.RoundTrip.{Sound}
 use Rattle.record.proofs.Numbers.{bytes_of_number}
@@ -63,8 +64,8 @@ call_passes n at k p h =
       known_place = leb-false _ _ (not_refused _ _ parts.1);
     }
 
-pub kind_byte_of : (k : ℕ) → 1 ≤ k → k ≤ 3 → kind_byte (kind_of k) ≡ k
-kind_byte_of k low high = grind (arith, nat_tests)
+pub kind_number_of : (k : ℕ) → 1 ≤ k → k ≤ 3 → kind_number (kind_of k) ≡ k
+kind_number_of k low high = grind (arith, nat_tests)
 
 -- what the test of m calls tells
 pub record CallsPass (n m : ℕ) (bs : List ℕ) : Type 0 where
@@ -82,7 +83,7 @@ calls_pass n at m (k ∷ (p ∷ rest)) e h =
     record {
       counted = omega (arith, more.counted);
       placed = (here.known_place, more.placed);
-      written_again = rw (kind_byte_of k here.some_kind here.known_kind, more.written_again) refl;
+      written_again = rw (kind_number_of k here.some_kind here.known_kind, more.written_again) refl;
     }
 
 -- a list is its first four fours and the rest

@@ -3,7 +3,7 @@ use Rattle.std.specs.Prelude.{◌≡◌, ℕ, ◌+◌, ◌-◌, ◌*◌, ◌/◌
 use Rattle.std.specs.Result.{result_map_both}
 use Rattle.std.specs.List.{slice_get}
 use Rattle.std.specs.Option.{option_to_list}
-use Rattle.record.specs.declared.call.BusCall.{BusCall}
+use Rattle.lock.specs.declared.Call.{Call}
 use Rattle.record.specs.declared.faults.RecordFault.{RecordFault}
 use Rattle.record.specs.declared.reader.Header.{Header}
 use Rattle.record.specs.declared.reader.Reader.{Reader}
@@ -45,7 +45,7 @@ abbrev pub position_of : Reading → ℕ
 position_of r = (r.cursor - 16) / 2
 
 -- the calls that are still to come
-abbrev pub calls_left : Reading → List BusCall
+abbrev pub calls_left : Reading → List Call
 calls_left r = calls_of (drop r.cursor r.bytes)
 
 abbrev pub at_byte : ℕ → Reading → Reading
@@ -60,7 +60,7 @@ abbrev pub rewound : Reading → Reading
 rewound r = at_byte 16 r
 
 -- what a call of the reader that was at S returns, and where it leaves the reader
-pub record NextCall (S : Reading) (r : Option BusCall) (T : Reading) : Type 0 where
+pub record NextCall (S : Reading) (r : Option Call) (T : Reading) : Type 0 where
   pub call : r ≡ slice_get (calls_left S) 0
   pub after : T ≡ moved S
   pub left : calls_left S ≡ option_to_list r ++ calls_left T

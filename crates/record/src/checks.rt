@@ -2,6 +2,7 @@ ghost use Rattle.std.specs.Prelude.{◌≡◌, ◌+◌, ◌^◌, ◌<◌, length
 ghost use Rattle.record.specs.Checks.{counts_test, call_test, calls_test};
 
 use super::faults::RecordFault;
+use lock::Kind;
 
 const PLACE_LIMIT: u32 = 64;
 
@@ -28,9 +29,7 @@ pub(crate) fn check_call(places: u32, byte: usize, kind: u8, place: u8) -> Resul
     requires { byte + 1 < 2 ^ 64 }
     ensures { result ≡ call_test places byte kind place }
 {
-    if kind < 1 || kind > 3 {
-        return Err(RecordFault::CallKind { byte });
-    }
+    Kind::try_from(kind).map_err(|_| RecordFault::CallKind { byte })?;
     if u32::from(place) >= places {
         return Err(RecordFault::CallPlace { byte: byte + 1 });
     }

@@ -3,9 +3,9 @@ ghost use Rattle.record.specs.Layout.{kind_of, number_at};
 ghost use Rattle.record.specs.RoundTrip.{Sound};
 ghost use Rattle.record.specs.Readers.{reading, header_read, opened, opening, start_of, rewound, position_of, NextCall};
 
-use super::call::{BusCall, BusKind};
 use super::checks::{HEADER_LENGTH, check_calls, check_counts};
 use super::faults::RecordFault;
+use lock::{Call, Kind};
 
 // What the header of a record says.
 #[derive(Clone, Copy)]
@@ -57,13 +57,13 @@ fn read_header(bytes: &[u8]) -> Result<Header, RecordFault>
 }
 
 // The kind of a byte that passed its test, and so is 1, 2 or 3.
-fn kind_of(byte: u8) -> BusKind
+fn kind_of(byte: u8) -> Kind
     ensures { result ≡ kind_of byte }
 {
     match byte {
-        1 => BusKind::Bid,
-        2 => BusKind::Step,
-        _ => BusKind::Leave,
+        1 => Kind::Bid,
+        2 => Kind::Step,
+        _ => Kind::Leave,
     }
 }
 
@@ -105,13 +105,13 @@ impl<'a> Reader<'a> {
     }
 
     /// The next call, and moves past it; none at the end, where it stays.
-    pub fn next_call(&mut self) -> Option<BusCall>
+    pub fn next_call(&mut self) -> Option<Call>
         ensures { NextCall (reading self.old) result (reading self.new) }
     {
         let [kind, place, rest @ ..] = self.bytes.get(self.cursor..)? else {
             return None;
         };
-        let call = BusCall {
+        let call = Call {
             kind: kind_of(*kind),
             place: *place as usize,
         };

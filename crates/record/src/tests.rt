@@ -1,8 +1,9 @@
-use super::call::{BusCall, BusKind, RawCall};
+use super::call::RawCall;
 use super::faults::RecordFault;
 use super::reader::Reader;
 use super::writer::write_record;
 use fault::Fault;
+use lock::{Call, Kind};
 use std::process::Abort;
 use std::test::Fail;
 
@@ -391,23 +392,23 @@ fn sixty_four_places_and_20_000_calls_are_the_most(rt: HostRuntime) {
     );
 }
 
-fn bytes_of(call: Option<BusCall>) -> Option<(u8, usize)> {
+fn bytes_of(call: Option<Call>) -> Option<(u8, usize)> {
     match call {
         Some(
-            BusCall {
-                kind: BusKind::Bid,
+            Call {
+                kind: Kind::Bid,
                 place,
             },
         ) => Some((1, place)),
         Some(
-            BusCall {
-                kind: BusKind::Step,
+            Call {
+                kind: Kind::Step,
                 place,
             },
         ) => Some((2, place)),
         Some(
-            BusCall {
-                kind: BusKind::Leave,
+            Call {
+                kind: Kind::Leave,
                 place,
             },
         ) => Some((3, place)),
