@@ -1,15 +1,14 @@
 -- A record that passes the tests of the reader is sound. Assumes nothing.
-use Rattle.std.proofs.Common.{◌≡◌, ℕ, ◌+◌, ◌-◌, ◌*◌, ◌<◌, ◌≤◌, List, [], ◌∷◌, ◌++◌, map, length, get_or, take, drop, Ok, Result, sym, refl, ap, ◌∙◌, arith, length-drop}
+use Rattle.std.proofs.Common.{◌≡◌, ℕ, zero, suc, ◌+◌, ◌-◌, ◌*◌, ◌<◌, ◌≤◌, List, [], ◌∷◌, ◌++◌, map, length, get_or, take, drop, Ok, Result, IsOk, sym, refl, ap, ◌∙◌, arith, length-drop}
 use Rattle.std.specs.List.{AllByRecursion}
 use Rattle.std.proofs.lemmas.List.{take_rest, take-append-drop, drop-drop, length-map}
 use Rattle.std.proofs.lemmas.Bool.{or_parts, ltb-false, leb-false, not-false, eqb-true}
 use Rattle.std.proofs.lemmas.Bool.Decides.{nat_tests}
-use Rattle.lock.specs.Kinds.{kind_number}
+use Rattle.lock.specs.Kinds.{kind_number, kind_numbered}
 use Rattle.record.specs.declared.faults.RecordFault.{RecordFault}
 use Rattle.record.specs.declared.reader.Header.{Header}
-use Rattle.record.specs.Checks.{header_test, call_test, calls_test, reading_test}
+use Rattle.record.specs.Checks.{header_read, header_test, call_test, calls_test, reading_test}
 use Rattle.record.specs.Layout.{number_bytes, places_in, call_count_in, offset_in, length_in, kind_of, calls_of, calls_in, call_bytes, raw_call, encode}
-use Rattle.record.specs.Readers.{header_read}
 use Rattle.record.specs.RoundTrip.{Sound}
 use Rattle.record.proofs.Numbers.{bytes_of_number}
 use Rattle.record.proofs.Sequence.{passes, both_pass, not_refused}
@@ -66,6 +65,25 @@ call_passes n at k p h =
 
 pub kind_number_of : (k : ℕ) → 1 ≤ k → k ≤ 3 → kind_number (kind_of k) ≡ k
 kind_number_of k low high = grind (arith, nat_tests)
+
+-- each of the calls that pass passes its own test
+nth_passes : (n at k : ℕ) (bs : List ℕ) → calls_test n at bs ≡ Ok tt → 2 ≤ length (drop (2 * k) bs) → CallPasses n (get_or (drop (2 * k) bs) 0 0) (get_or (drop (2 * k) bs) 1 0)
+nth_passes n at k [] h long = let none : List ℕ = [] in absurd (omega (arith, length-drop (2 * k) none))
+nth_passes n at k (b ∷ []) h long = absurd (omega (arith, length-drop (2 * k) (b ∷ [])))
+nth_passes n at zero (b ∷ (p ∷ rest)) h long = call_passes n at b p (both_pass _ _ h).0
+nth_passes n at (suc k) (b ∷ (p ∷ rest)) h long =
+    let twice : 2 * suc k ≡ suc (suc (2 * k)) = omega arith in
+    rw twice (nth_passes n (at + 2) k rest (both_pass _ _ h).1 (rw twice at long))
+
+known : (k : ℕ) → 1 ≤ k → k ≤ 3 → IsOk (kind_numbered k)
+known k low high = grind (arith, nat_tests)
+
+-- before the end of a record that passes stands a byte that names a kind
+pub kind_known : (bs : List ℕ) (at k : ℕ) → reading_test bs ≡ Ok tt → at ≡ 16 + 2 * k → 2 ≤ length (drop at bs) → IsOk (kind_numbered (get_or (drop at bs) 0 0))
+kind_known bs at k h here long =
+    let there : drop (2 * k) (drop 16 bs) ≡ drop at bs = rw (here, drop-drop (2 * k) 16 bs) refl in
+    let call = nth_passes (places_in bs) 16 k (drop 16 bs) (both_pass _ _ h).1 (rw there long) in
+    rw (← there) (known _ call.some_kind call.known_kind)
 
 -- what the test of m calls tells
 pub record CallsPass (n m : ℕ) (bs : List ℕ) : Type 0 where

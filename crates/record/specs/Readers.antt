@@ -5,9 +5,8 @@ use Rattle.std.specs.List.{slice_get}
 use Rattle.std.specs.Option.{option_to_list}
 use Rattle.lock.specs.declared.Call.{Call}
 use Rattle.record.specs.declared.faults.RecordFault.{RecordFault}
-use Rattle.record.specs.declared.reader.Header.{Header}
 use Rattle.record.specs.declared.reader.Reader.{Reader}
-use Rattle.record.specs.Checks.{◌then◌, header_test, reading_test}
+use Rattle.record.specs.Checks.{◌then◌, reading_test}
 use Rattle.record.specs.Layout.{places_in, call_count_in, calls_of, calls_in}
 
 pub record Reading : Type 0 where
@@ -28,9 +27,6 @@ reading r =
 
 abbrev pub opened : Result Reader RecordFault → Result Reading RecordFault
 opened r = result_map_both reading (λ e. e) r
-
-abbrev pub header_read : List ℕ → Result Header RecordFault
-header_read bs = header_test bs then Ok (record { places = places_in bs; calls = call_count_in bs })
 
 -- a reader before the first call of a record
 abbrev pub start_of : List ℕ → Reading

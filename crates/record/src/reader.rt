@@ -1,7 +1,6 @@
-ghost use Rattle.std.specs.Prelude.{◌≡◌, ◌+◌, ◌≤◌, length, IfOk, OnOk};
-ghost use Rattle.record.specs.Layout.{kind_of, number_at};
-ghost use Rattle.record.specs.RoundTrip.{Sound};
-ghost use Rattle.record.specs.Readers.{reading, header_read, opened, opening, start_of, rewound, position_of, NextCall};
+ghost use Rattle.std.specs.Prelude.{◌≡◌, ◌+◌, ◌-◌, ◌*◌, ◌/◌, ◌≤◌, length, Ok, IfOk, OnOk};
+ghost use Rattle.record.specs.Layout.{number_at, places_in, call_count_in};
+ghost use Rattle.record.specs.Checks.{header_read, reading_test};
 
 use super::checks::{HEADER_LENGTH, check_calls, check_counts};
 use super::faults::RecordFault;
@@ -21,6 +20,9 @@ pub struct Reader<'a> {
     header: Header,
     // The byte of the next call, or the end.
     cursor: usize,
+    pub ghost passed: { reading_test bytes.now ≡ Ok tt },
+    pub ghost counts: { (header.places ≡ places_in bytes.now) × (header.calls ≡ call_count_in bytes.now) },
+    pub ghost at_a_call: { (cursor ≡ 16 + 2 * ((cursor - 16) / 2)) × (cursor ≤ length bytes.now) },
 }
 
 // The 32-bit number at `start`, low byte first.
@@ -56,18 +58,10 @@ fn read_header(bytes: &[u8]) -> Result<Header, RecordFault>
     Ok(Header { places, calls })
 }
 
-// The kind of a byte that passed its test, and so is 1, 2 or 3.
-fn kind_of(byte: u8) -> Kind
-    ensures { result ≡ kind_of byte }
-{
-    match byte {
-        1 => Kind::Bid,
-        2 => Kind::Step,
-        _ => Kind::Leave,
-    }
-}
-
 impl<'a> Reader<'a> {
+    ghost use Rattle.record.specs.Readers.{reading, opened, opening, start_of, rewound, position_of, NextCall};
+    ghost use Rattle.record.specs.RoundTrip.{Sound};
+
     /// Opens a record before its first call; refuses with the first test that fails.
     pub fn open(bytes: &'a [u8]) -> Result<Reader<'a>, RecordFault>
         ensures outcome { opened result ≡ opening bytes.now }
@@ -101,18 +95,18 @@ impl<'a> Reader<'a> {
     pub fn position(&self) -> usize
         ensures { result ≡ position_of (reading self.now) }
     {
-        self.cursor.saturating_sub(HEADER_LENGTH) / 2
+        (self.cursor - HEADER_LENGTH) / 2
     }
 
     /// The next call, and moves past it; none at the end, where it stays.
     pub fn next_call(&mut self) -> Option<Call>
         ensures { NextCall (reading self.old) result (reading self.new) }
     {
-        let [kind, place, rest @ ..] = self.bytes.get(self.cursor..)? else {
+        let [kind, place, rest @ ..] = &self.bytes[self.cursor..] else {
             return None;
         };
         let call = Call {
-            kind: kind_of(*kind),
+            kind: Kind::try_from(*kind).unwrap(),
             place: *place as usize,
         };
         self.cursor = self.bytes.len() - rest.len();

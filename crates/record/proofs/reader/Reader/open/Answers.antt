@@ -3,8 +3,8 @@ use Rattle.std.proofs.Common.{drop, sym, refl, ◌∙◌, arith}
 use Rattle.std.proofs.lemmas.Result.{err_from_is_err_and}
 use Rattle.record.specs.Checks.{header_test, calls_test}
 use Rattle.record.specs.Layout.{places_in}
-use Rattle.record.proofs.Sequence.{fails_first}
-use Rattle.record.proofs.Passing.{reading_test_is, sound}
+use Rattle.record.proofs.Sequence.{fails_first, both_pass}
+use Rattle.record.proofs.Passing.{reading_test_is, header_passes, sound}
 use Rattle.record.proofs.reader.Reader.open.Goals as goal
 
 pub returns-in_err-header : goal.returns-in_err-header
@@ -25,6 +25,15 @@ returns-in_err-check_calls c =
       outcome = rw (p.1, p.2, test.0, c.in_err-check_calls.was) refl;
       start = rw p.1 tt;
       sound = rw p.1 tt;
+    }
+
+pub invariant_of-result : goal.invariant_of-result
+invariant_of-result c =
+    let test = reading_test_is c.args.bytes.now c.in_ok-header.header c.check_calls.result (sym c.read_header.ensures ∙ c.in_ok-header.was) c.check_calls.ensures in
+    record {
+      passed = test.0 ∙ c.in_ok-check_calls.was;
+      counts = rw (← test.1) (refl, refl);
+      at_a_call = (refl, (header_passes c.args.bytes.now (both_pass _ _ (test.0 ∙ c.in_ok-check_calls.was)).0).whole_header);
     }
 
 pub returns : goal.returns
