@@ -1,6 +1,8 @@
 ghost use Rattle.std.specs.Prelude.{◌≡◌, ◌+◌, ◌-◌, ◌*◌, ◌/◌, ◌≤◌, length, Ok, IfOk, OnOk};
 ghost use Rattle.record.specs.Layout.{number_at, places_in, call_count_in};
 ghost use Rattle.record.specs.Checks.{header_read, reading_test};
+ghost use Rattle.record.specs.RoundTrip.{Sound};
+ghost use Rattle.std.proofs.Props.{props};
 
 use super::checks::{HEADER_LENGTH, check_calls, check_counts};
 use super::faults::RecordFault;
@@ -21,6 +23,7 @@ pub struct Reader<'a> {
     // The byte of the next call, or the end.
     cursor: usize,
     pub ghost passed: { reading_test bytes.now ≡ Ok tt },
+    pub ghost sound: { Sound bytes.now } by { Prim.hlevel props },
     pub ghost counts: { (header.places ≡ places_in bytes.now) × (header.calls ≡ call_count_in bytes.now) },
     pub ghost at_a_call: { (cursor ≡ 16 + 2 * ((cursor - 16) / 2)) × (cursor ≤ length bytes.now) },
 }
@@ -60,7 +63,6 @@ fn read_header(bytes: &[u8]) -> Result<Header, RecordFault>
 
 impl<'a> Reader<'a> {
     ghost use Rattle.record.specs.Readers.{reading, opened, opening, start_of, rewound, position_of, NextCall};
-    ghost use Rattle.record.specs.RoundTrip.{Sound};
 
     /// Opens a record before its first call; refuses with the first test that fails.
     pub fn open(bytes: &'a [u8]) -> Result<Reader<'a>, RecordFault>
@@ -77,16 +79,18 @@ impl<'a> Reader<'a> {
         })
     }
 
-    /// How many places the record has.
+    /// How many places the record has, 1 to 64.
     pub fn places(&self) -> usize
-        ensures { result ≡ (reading self.now).places }
+        ensures value { result ≡ (reading self.now).places }
+        ensures bound { (1 ≤ result) × (result ≤ 64) }
     {
         self.header.places as usize
     }
 
-    /// How many calls the record has.
+    /// How many calls the record has, 20,000 at most.
     pub fn calls(&self) -> usize
-        ensures { result ≡ (reading self.now).call_count }
+        ensures value { result ≡ (reading self.now).call_count }
+        ensures bound { result ≤ 20000 }
     {
         self.header.calls
     }

@@ -32,6 +32,7 @@ invariant_of-result c =
     let test = reading_test_is c.args.bytes.now c.in_ok-header.header c.check_calls.result (sym c.read_header.ensures ∙ c.in_ok-header.was) c.check_calls.ensures in
     record {
       passed = test.0 ∙ c.in_ok-check_calls.was;
+      sound = sound c.args.bytes.now (λ i. omega (arith, c.type_inv.bytes i)) (test.0 ∙ c.in_ok-check_calls.was);
       counts = rw (← test.1) (refl, refl);
       at_a_call = (refl, (header_passes c.args.bytes.now (both_pass _ _ (test.0 ∙ c.in_ok-check_calls.was)).0).whole_header);
     }
