@@ -42,10 +42,8 @@ pub(crate) fn check_calls(places: u32, start: usize, calls: &[u8]) -> Result<(),
     ensures { result ≡ calls_test places start calls.now }
 {
     let mut rest = calls;
-    let mut byte = start;
     while let [kind, place, behind @ ..] = rest {
-        check_call(places, byte, *kind, *place)?;
-        byte += 2;
+        check_call(places, start + (calls.len() - rest.len()), *kind, *place)?;
         rest = behind;
     }
     Ok(())

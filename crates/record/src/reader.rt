@@ -1,4 +1,4 @@
-ghost use Rattle.std.specs.Prelude.{◌≡◌, ◌+◌, ◌-◌, ◌*◌, ◌/◌, ◌≤◌, length, Ok, IfOk, OnOk};
+ghost use Rattle.std.specs.Prelude.{◌≡◌, ◌+◌, ◌%◌, ◌≤◌, length, Ok, IfOk, OnOk};
 ghost use Rattle.record.specs.Layout.{number_at, places_in, call_count_in};
 ghost use Rattle.record.specs.Checks.{header_read, reading_test};
 ghost use Rattle.record.specs.RoundTrip.{Sound};
@@ -25,7 +25,7 @@ pub struct Reader<'a> {
     pub ghost passed: { reading_test bytes.now ≡ Ok tt },
     pub ghost sound: { Sound bytes.now } by { Prim.hlevel props },
     pub ghost counts: { (header.places ≡ places_in bytes.now) × (header.calls ≡ call_count_in bytes.now) },
-    pub ghost at_a_call: { (cursor ≡ 16 + 2 * ((cursor - 16) / 2)) × (cursor ≤ length bytes.now) },
+    pub ghost at_a_call: { (16 ≤ cursor) × (cursor % 2 ≡ 0) × (cursor ≤ length bytes.now) },
 }
 
 // The 32-bit number at `start`, low byte first.
@@ -33,12 +33,7 @@ fn number_at(bytes: &[u8], start: usize) -> u32
     requires { start + 4 ≤ length bytes.now }
     ensures { result ≡ number_at bytes.now start }
 {
-    u32::from_le_bytes([
-        bytes[start],
-        bytes[start + 1],
-        bytes[start + 2],
-        bytes[start + 3],
-    ])
+    u32::from_le_bytes(*bytes[start..].first_chunk().unwrap())
 }
 
 // Refuses by the tests that the header alone decides.

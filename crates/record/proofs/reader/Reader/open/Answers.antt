@@ -1,5 +1,5 @@
 -- The first test that fails is the outcome, and a record that passes all of them is sound. Assumes nothing.
-use Rattle.std.proofs.Common.{drop, sym, refl, ◌∙◌, arith}
+use Rattle.std.proofs.Common.{drop, sym, refl, ◌∙◌, arith, lit≤}
 use Rattle.std.proofs.lemmas.Result.{err_from_is_err_and}
 use Rattle.record.specs.Checks.{header_test, calls_test}
 use Rattle.record.specs.Layout.{places_in}
@@ -34,7 +34,7 @@ invariant_of-result c =
       passed = test.0 ∙ c.in_ok-check_calls.was;
       sound = sound c.args.bytes.now (λ i. omega (arith, c.type_inv.bytes i)) (test.0 ∙ c.in_ok-check_calls.was);
       counts = rw (← test.1) (refl, refl);
-      at_a_call = (refl, (header_passes c.args.bytes.now (both_pass _ _ (test.0 ∙ c.in_ok-check_calls.was)).0).whole_header);
+      at_a_call = (lit≤ tt, refl, (header_passes c.args.bytes.now (both_pass _ _ (test.0 ∙ c.in_ok-check_calls.was)).0).whole_header);
     }
 
 pub returns : goal.returns
