@@ -11,4 +11,7 @@ returns-in-Err c =
     let cut : opening c.args.bytes.now ≡ Err HeaderCut = rw (lt-ltb _ _ short) refl in
     let refused = c.in-Err.ensures.outcome ∙ cut in
     let fault : c.in-Err.fault ≡ HeaderCut = cc in
-    rw (c.number.ensures, c.byte.ensures, fault) refl
+    record {
+      value = rw (c.number.ensures, c.byte.ensures, fault) refl;
+      from_opening = rw (c.number.ensures, c.byte.ensures, fault, cut) refl;
+    }
