@@ -1,5 +1,5 @@
 -- A record that passes the tests of the reader is sound. Assumes nothing.
-use Rattle.std.proofs.Common.{◌≡◌, ℕ, zero, suc, ◌+◌, ◌-◌, ◌*◌, ◌<◌, ◌≤◌, List, [], ◌∷◌, ◌++◌, map, length, get_or, take, drop, Ok, Result, IsOk, sym, refl, ap, ◌∙◌, arith, length-drop}
+use Rattle.std.proofs.Common.{◌≡◌, ℕ, zero, suc, ◌+◌, ◌-◌, ◌*◌, ◌<◌, ◌≤◌, List, [], ◌∷◌, ◌++◌, map, length, get_or, take, drop, Ok, Err, Result, IsOk, sym, refl, ap, ◌∙◌, arith, length-drop}
 use Rattle.std.specs.List.{AllByRecursion}
 use Rattle.std.proofs.lemmas.List.{take_rest, take-append-drop, drop-drop, length-map}
 use Rattle.std.proofs.lemmas.Bool.{or_parts, ltb-false, leb-false, not-false, eqb-true}
@@ -9,15 +9,24 @@ use Rattle.record.specs.declared.faults.RecordFault.{RecordFault}
 use Rattle.record.specs.declared.reader.Header.{Header}
 use Rattle.record.specs.Checks.{header_read, header_test, call_test, calls_test, reading_test}
 use Rattle.record.specs.Layout.{number_bytes, places_in, call_count_in, offset_in, length_in, kind_of, calls_of, calls_in, call_bytes, raw_call, encode}
+use Rattle.record.specs.Readers.{opening}
 use Rattle.record.specs.RoundTrip.{Sound}
 use Rattle.record.proofs.Numbers.{bytes_of_number}
-use Rattle.record.proofs.Sequence.{passes, both_pass, not_refused}
+use Rattle.record.proofs.Sequence.{fails_first, passes, both_pass, not_refused}
 
--- what is read of a header that passes, and where the calls decide
-pub reading_test_is : (bs : List ℕ) (h : Header) (r : Result Unit RecordFault) → header_read bs ≡ Ok h → r ≡ calls_test h.places 16 (take (length bs - 16) (drop 16 bs)) → (reading_test bs ≡ r) × (record { places = places_in bs; calls = call_count_in bs } ≡ h)
-reading_test_is bs h r e f =
+-- a header that is refused refuses the record
+pub header_refuses : (bs : List ℕ) (e : RecordFault) → header_read bs ≡ Err e → opening bs ≡ Err e
+header_refuses bs e h = fails_first (header_test bs) (calls_test (places_in bs) 16 (drop 16 bs)) _ _ e h
+
+-- where the header passes, the calls decide
+pub calls_decide : (bs : List ℕ) (h : Header) (r : Result Unit RecordFault) → header_read bs ≡ Ok h → r ≡ calls_test h.places 16 (take (length bs - 16) (drop 16 bs)) → reading_test bs ≡ r
+calls_decide bs h r e f =
     let read = passes (header_test bs) _ h e in
-    (rw (read.0, f, ← read.1, take_rest bs 16) refl, read.1)
+    rw (read.0, f, ← read.1, take_rest bs 16) refl
+
+-- and the header says what its bytes say
+pub read_of_bytes : (bs : List ℕ) (h : Header) → header_read bs ≡ Ok h → h ≡ record { places = places_in bs; calls = call_count_in bs }
+read_of_bytes bs h e = sym (passes (header_test bs) _ h e).1
 
 -- what the header test tells
 pub record Passes (bs : List ℕ) : Type 0 where

@@ -4,19 +4,9 @@ use Rattle.std.proofs.lemmas.List.{drop_more, drop_all}
 use Rattle.std.proofs.lemmas.Result.{err_from_is_err_and}
 use Rattle.record.proofs.writer.check_raw_calls.Goals as goal
 
-pub returns-in_err-check_call : goal.returns-in_err-check_call
-returns-in_err-check_call c =
-    let p = err_from_is_err_and c.from_residual.result c.from_residual.ensures.1 in
-    let left = drop_more c.args.calls.now c.loop-index.index (record { kind = 0; place = 0 }) c.loop-index-test.true in
-    let failed = sym c.check_call.ensures ∙ c.in_err-check_call.was in
-    rw (p.1, p.2, ← c.loop-index.invariant, left, failed) refl
-
 pub loop-index-preserved : goal.loop-index-preserved
 loop-index-preserved c =
     let next : 16 + 2 * (c.loop-index.index + 1) ≡ 16 + 2 * c.loop-index.index + 2 = omega arith in
     let left = drop_more c.args.calls.now c.loop-index.index (record { kind = 0; place = 0 }) c.loop-index-test.true in
     let passed = sym c.check_call.ensures ∙ c.in_ok-check_call.was in
     rw (← c.loop-index.invariant, left, passed, next) refl
-
-pub returns : goal.returns
-returns c = rw (drop_all c.loop-index.index c.args.calls.now c.loop-index-test.false) at c.loop-index.invariant

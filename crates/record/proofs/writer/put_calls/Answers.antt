@@ -9,6 +9,3 @@ loop-index-preserved c =
     let calls = c.args.calls.now in
     let call = get_or calls c.loop-index.index (record { kind = 0; place = 0 }) in
     c.put.ensures ∙ put_call_more c.args.buffer.now c.loop-index.buffer calls call _ _ (omega arith) c.loop-index-test.true refl (get_or_default calls _ _ _ c.loop-index-test.true) c.loop-index.invariant
-
-pub returns : goal.returns
-returns c = c.loop-index.invariant ∙ rw (take_all c.loop-index.index c.args.calls.now c.loop-index-test.false) refl
