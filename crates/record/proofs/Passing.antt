@@ -1,5 +1,5 @@
 -- A record that passes the tests of the reader is sound. Assumes nothing.
-use Rattle.std.proofs.Common.{◌≡◌, ℕ, zero, suc, ◌+◌, ◌-◌, ◌*◌, ◌<◌, ◌≤◌, List, [], ◌∷◌, ◌++◌, map, length, get_or, take, drop, Ok, Err, Result, IsOk, sym, refl, ap, ◌∙◌, arith, length-drop}
+use Rattle.std.proofs.Common.{◌≡◌, ℕ, zero, suc, ◌+◌, ◌-◌, ◌*◌, ◌/◌, ◌%◌, ◌<◌, ◌≤◌, List, [], ◌∷◌, ◌++◌, map, length, get_or, take, drop, Ok, Err, Result, IsOk, sym, refl, ap, ◌∙◌, arith, length-drop}
 use Rattle.std.specs.List.{AllByRecursion}
 use Rattle.std.proofs.lemmas.List.{take_rest, take-append-drop, drop-drop, length-map}
 use Rattle.std.proofs.lemmas.Bool.{or_parts, ltb-false, leb-false, not-false, eqb-true}
@@ -88,9 +88,11 @@ known : (k : ℕ) → 1 ≤ k → k ≤ 3 → IsOk (kind_numbered k)
 known k low high = grind (arith, nat_tests)
 
 -- before the end of a record that passes stands a byte that names a kind
-pub kind_known : (bs : List ℕ) (at k : ℕ) → reading_test bs ≡ Ok tt → at ≡ 16 + 2 * k → 2 ≤ length (drop at bs) → IsOk (kind_numbered (get_or (drop at bs) 0 0))
-kind_known bs at k h here long =
-    let there : drop (2 * k) (drop 16 bs) ≡ drop at bs = rw (here, drop-drop (2 * k) 16 bs) refl in
+pub kind_known : (bs : List ℕ) (at : ℕ) → reading_test bs ≡ Ok tt → 16 ≤ at → at % 2 ≡ 0 → 2 ≤ length (drop at bs) → IsOk (kind_numbered (get_or (drop at bs) 0 0))
+kind_known bs at h low even long =
+    let k = (at - 16) / 2 in
+    let here : 16 + 2 * k ≡ at = omega arith in
+    let there : drop (2 * k) (drop 16 bs) ≡ drop at bs = drop-drop (2 * k) 16 bs ∙ ap (λ i. drop i bs) here in
     let call = nth_passes (places_in bs) 16 k (drop 16 bs) (both_pass _ _ h).1 (rw there long) in
     rw (← there) (known _ call.some_kind call.known_kind)
 

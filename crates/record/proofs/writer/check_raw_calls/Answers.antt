@@ -1,7 +1,6 @@
 -- The first call that is left decides, or leaves the outcome to those behind it. Assumes nothing.
 use Rattle.std.proofs.Common.{◌≡◌, ◌+◌, ◌*◌, sym, refl, ◌∙◌, arith}
-use Rattle.std.proofs.lemmas.List.{drop_more, drop_all}
-use Rattle.std.proofs.lemmas.Result.{err_from_is_err_and}
+use Rattle.std.proofs.lemmas.List.{drop_more}
 use Rattle.record.proofs.writer.check_raw_calls.Goals as goal
 
 pub loop-index-preserved : goal.loop-index-preserved

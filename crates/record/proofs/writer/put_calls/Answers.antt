@@ -1,6 +1,6 @@
 -- Each call goes behind those before it. Assumes nothing.
 use Rattle.std.proofs.Common.{get_or, refl, ◌∙◌, arith}
-use Rattle.std.proofs.lemmas.List.{take_all, get_or_default}
+use Rattle.std.proofs.lemmas.List.{get_or_default}
 use Rattle.record.proofs.Putting.{put_call_more}
 use Rattle.record.proofs.writer.put_calls.Goals as goal
 

@@ -1,5 +1,5 @@
 -- The bytes behind the cursor are the two of the next call and the rest, or fewer than two. Assumes nothing.
-use Rattle.std.proofs.Common.{◌≡◌, ℕ, ◌≤◌, ◌+◌, ◌-◌, ◌*◌, ◌/◌, ◌%◌, sym, ◌∙◌, arith, length-drop}
+use Rattle.std.proofs.Common.{sym, ◌∙◌, arith, length-drop}
 use Rattle.std.proofs.lemmas.List.{take_rest}
 use Rattle.record.specs.Readers.{reading}
 use Rattle.record.proofs.Passing.{kind_known}
@@ -11,16 +11,13 @@ returns-in_default c =
     let few = rw (take_rest, length-drop) at c.in_default.len_below in
     ended (reading c.args.self.now) (omega arith)
 
-even : (at : ℕ) → 16 ≤ at → at % 2 ≡ 0 → at ≡ 16 + 2 * ((at - 16) / 2)
-even at low e = omega arith
-
 pub unwrap-requires : goal.unwrap-requires
 unwrap-requires c =
     let self = c.args.self.now in
     let two = rw take_rest at c.in-len2-up.len_at_least in
-    rw (c.try_from.ensures, take_rest) (kind_known self.bytes.now self.cursor _ self.passed (even _ self.at_a_call.0 self.at_a_call.1) two)
+    rw (c.try_from.ensures, take_rest) (kind_known self.bytes.now self.cursor self.passed self.at_a_call.0 self.at_a_call.1 two)
 
 pub returns : goal.returns
 returns c =
     let self = c.args.self.now in
-    came (reading self) _ _ _ (take_rest self.bytes.now self.cursor) c.in-len2-up.len_at_least (sym c.try_from.ensures ∙ c.unwrap.ensures) (rw (take_rest, length-drop) (omega arith))
+    came (reading self) _ _ (take_rest self.bytes.now self.cursor) c.in-len2-up.len_at_least (sym c.try_from.ensures ∙ c.unwrap.ensures)
