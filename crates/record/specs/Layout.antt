@@ -27,11 +27,11 @@ length_in bs = number_at bs 12
 abbrev pub number_bytes : ℕ → List ℕ
 number_bytes n = (n % 256) ∷ ((n / 256 % 256) ∷ ((n / 65536 % 256) ∷ ((n / 16777216 % 256) ∷ [])))
 
--- the kind of a byte that names one
+-- the kind that a byte names; of a byte that names none, which no record has, a leave
 abbrev pub kind_of : ℕ → Kind
 kind_of k = result_unwrap_or (kind_numbered k) Leave
 
--- the call of two bytes whose kind is 1 to 3
+-- the call of two bytes whose first names a kind
 abbrev pub bus_call : RawCall → Call
 bus_call c = record { kind = kind_of c.kind; place = c.place }
 

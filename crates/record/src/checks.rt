@@ -41,6 +41,7 @@ pub(crate) fn check_calls(places: u32, start: usize, calls: &[u8]) -> Result<(),
     requires { start + length calls.now < 2 ^ 64 }
     ensures { result ≡ calls_test places start calls.now }
 {
+    // A loop, since by the project's rule a call comes off the front of the rest.
     let mut rest = calls;
     while let [kind, place, behind @ ..] = rest {
         check_call(places, start + (calls.len() - rest.len()), *kind, *place)?;

@@ -22,9 +22,12 @@ pub struct Reader<'a> {
     header: Header,
     // The byte of the next call, or the end.
     cursor: usize,
+    // Every test passed, and what follows from that.
     pub ghost passed: { reading_test bytes.now ≡ Ok tt },
     pub ghost sound: { Sound bytes.now } by { Prim.hlevel props },
+    // The header is what the bytes say.
     pub ghost counts: { (header.places ≡ places_in bytes.now) × (header.calls ≡ call_count_in bytes.now) },
+    // The cursor lies before a call or at the end.
     pub ghost at_a_call: { (16 ≤ cursor) × (cursor % 2 ≡ 0) × (cursor ≤ length bytes.now) },
 }
 
@@ -90,9 +93,10 @@ impl<'a> Reader<'a> {
         self.header.calls
     }
 
-    /// How many calls have come since the record was opened or gone back to its start.
+    /// How many calls have come since the record was opened or gone back to its start, at most all.
     pub fn position(&self) -> usize
-        ensures { result ≡ position_of (reading self.now) }
+        ensures value { result ≡ position_of (reading self.now) }
+        ensures bound { result ≤ (reading self.now).call_count }
     {
         (self.cursor - HEADER_LENGTH) / 2
     }

@@ -3,7 +3,7 @@ use super::faults::RecordFault;
 use super::reader::Reader;
 use super::writer::write_record;
 use fault::Fault;
-use lock::{Call, Kind};
+use lock::Call;
 use std::process::Abort;
 use std::test::Fail;
 
@@ -393,27 +393,7 @@ fn sixty_four_places_and_20_000_calls_are_the_most(rt: HostRuntime) {
 }
 
 fn bytes_of(call: Option<Call>) -> Option<(u8, usize)> {
-    match call {
-        Some(
-            Call {
-                kind: Kind::Bid,
-                place,
-            },
-        ) => Some((1, place)),
-        Some(
-            Call {
-                kind: Kind::Step,
-                place,
-            },
-        ) => Some((2, place)),
-        Some(
-            Call {
-                kind: Kind::Leave,
-                place,
-            },
-        ) => Some((3, place)),
-        None => None,
-    }
+    call.map(|call| (call.kind as u8, call.place))
 }
 
 #[test]
