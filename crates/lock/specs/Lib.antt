@@ -1,4 +1,5 @@
 pub mod Calls
+pub mod Kinds
 pub mod Meaning
 pub mod Pasts
 pub mod Refusals

@@ -2,11 +2,14 @@
 
 ghost use Rattle.std.specs.Prelude.{◌≡◌, ℕ, ◌<◌, ◌≤◌, length, Some};
 ghost use Rattle.lock.specs.Calls.{admission, bid_by, step_by, leave_by, taken_or, answered_or};
+ghost use Rattle.lock.specs.Kinds.{kind_numbered, unknown_kind_text};
 ghost use Rattle.lock.specs.Meaning.{Form, Keeps, phase_answer, register_answer};
 ghost use Rattle.lock.specs.Pasts.{Promises};
 ghost use Rattle.lock.specs.Refusals.{refusal_number, refusal_byte, refusal_layer};
 
 use fault::{Fault, Layer};
+use std::error::Error;
+use std::fmt;
 
 /// How many bids a lock takes between two makings.
 pub const BID_LIMIT: u32 = 1_000_000;
@@ -64,13 +67,42 @@ impl Fault for Refusal {
     }
 }
 
-/// The three kinds of call.
+/// The three kinds of call, with the numbers by which a record names them.
 #[derive(Clone, Copy, Debug, PartialEq, Eq)]
 pub enum Kind {
-    Bid,
-    Step,
-    Leave,
+    Bid = 1,
+    Step = 2,
+    Leave = 3,
 }
+
+/// A number that names no kind of call.
+#[derive(Clone, Copy, Debug, PartialEq, Eq)]
+pub struct UnknownKind(pub u8);
+
+impl TryFrom<u8> for Kind {
+    type Error = UnknownKind;
+
+    ghost try_from_gives = { λ number kind. kind ≡ kind_numbered number };
+
+    fn try_from(number: u8) -> Result<Self, UnknownKind> {
+        match number {
+            1 => Ok(Kind::Bid),
+            2 => Ok(Kind::Step),
+            3 => Ok(Kind::Leave),
+            _ => Err(UnknownKind(number)),
+        }
+    }
+}
+
+impl fmt::Display for UnknownKind {
+    ghost output = { λ error. Some (unknown_kind_text error) };
+
+    fn fmt<W: fmt::Write>(&self, f: &mut fmt::Formatter<W>) -> fmt::Result {
+        write!(f, "no kind of call has the number {}", self.0)
+    }
+}
+
+impl Error for UnknownKind {}
 
 /// A call for one place.
 #[derive(Clone, Copy, Debug, PartialEq, Eq)]

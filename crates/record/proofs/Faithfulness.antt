@@ -7,7 +7,7 @@ use Rattle.record.specs.Layout.{number_bytes, places_in, call_count_in, length_i
 use Rattle.record.specs.RoundTrip.{Faithful}
 use Rattle.record.proofs.CallBytes.{length-call_bytes, calls_of-call_bytes}
 use Rattle.record.proofs.Numbers.{number_of_bytes}
-use Rattle.record.proofs.Passing.{Passes, call_passes, kind_byte_of}
+use Rattle.record.proofs.Passing.{Passes, call_passes, kind_number_of}
 use Rattle.record.proofs.Sequence.{both_pass, not_refused}
 
 header_of_passes : (bs : List ℕ) → Passes bs → header_test bs ≡ Ok tt
@@ -19,7 +19,7 @@ same_calls n at [] h = refl
 same_calls n at (c ∷ cs) h =
     let parts = both_pass _ _ h in
     let here = call_passes n at c.kind c.place parts.0 in
-    rw (kind_byte_of c.kind here.some_kind here.known_kind, same_calls n (at + 2) cs parts.1) refl
+    rw (kind_number_of c.kind here.some_kind here.known_kind, same_calls n (at + 2) cs parts.1) refl
 
 -- the header of a record that is written
 encode_passes : (n : ℕ) (cs : List RawCall) → 1 ≤ n → n ≤ 64 → length cs ≤ 20000 → Passes (encode n cs) × (places_in (encode n cs) ≡ n)

@@ -1,23 +1,32 @@
 -- A record that passes the tests of the reader is sound. Assumes nothing.
-use Rattle.std.proofs.Common.{◌≡◌, ℕ, ◌+◌, ◌-◌, ◌*◌, ◌<◌, ◌≤◌, List, [], ◌∷◌, ◌++◌, map, length, get_or, take, drop, Ok, Result, sym, refl, ap, ◌∙◌, arith, length-drop}
+use Rattle.std.proofs.Common.{◌≡◌, ℕ, zero, suc, ◌+◌, ◌-◌, ◌*◌, ◌/◌, ◌%◌, ◌<◌, ◌≤◌, List, [], ◌∷◌, ◌++◌, map, length, get_or, take, drop, Ok, Err, Result, IsOk, sym, refl, ap, ◌∙◌, arith, length-drop}
 use Rattle.std.specs.List.{AllByRecursion}
 use Rattle.std.proofs.lemmas.List.{take_rest, take-append-drop, drop-drop, length-map}
 use Rattle.std.proofs.lemmas.Bool.{or_parts, ltb-false, leb-false, not-false, eqb-true}
 use Rattle.std.proofs.lemmas.Bool.Decides.{nat_tests}
+use Rattle.lock.specs.Kinds.{kind_number, kind_numbered}
 use Rattle.record.specs.declared.faults.RecordFault.{RecordFault}
 use Rattle.record.specs.declared.reader.Header.{Header}
-use Rattle.record.specs.Checks.{header_test, call_test, calls_test, reading_test}
-use Rattle.record.specs.Layout.{number_bytes, places_in, call_count_in, offset_in, length_in, kind_of, kind_byte, calls_of, calls_in, call_bytes, raw_call, encode}
-use Rattle.record.specs.Readers.{header_read}
+use Rattle.record.specs.Checks.{header_read, header_test, call_test, calls_test, reading_test}
+use Rattle.record.specs.Layout.{number_bytes, places_in, call_count_in, offset_in, length_in, kind_of, calls_of, calls_in, call_bytes, raw_call, encode}
+use Rattle.record.specs.Readers.{opening}
 use Rattle.record.specs.RoundTrip.{Sound}
 use Rattle.record.proofs.Numbers.{bytes_of_number}
-use Rattle.record.proofs.Sequence.{passes, both_pass, not_refused}
+use Rattle.record.proofs.Sequence.{fails_first, passes, both_pass, not_refused}
 
--- what is read of a header that passes, and where the calls decide
-pub reading_test_is : (bs : List ℕ) (h : Header) (r : Result Unit RecordFault) → header_read bs ≡ Ok h → r ≡ calls_test h.places 16 (take (length bs - 16) (drop 16 bs)) → (reading_test bs ≡ r) × (record { places = places_in bs; calls = call_count_in bs } ≡ h)
-reading_test_is bs h r e f =
+-- a header that is refused refuses the record
+pub header_refuses : (bs : List ℕ) (e : RecordFault) → header_read bs ≡ Err e → opening bs ≡ Err e
+header_refuses bs e h = fails_first (header_test bs) (calls_test (places_in bs) 16 (drop 16 bs)) _ _ e h
+
+-- where the header passes, the calls decide
+pub calls_decide : (bs : List ℕ) (h : Header) (r : Result Unit RecordFault) → header_read bs ≡ Ok h → r ≡ calls_test h.places 16 (take (length bs - 16) (drop 16 bs)) → reading_test bs ≡ r
+calls_decide bs h r e f =
     let read = passes (header_test bs) _ h e in
-    (rw (read.0, f, ← read.1, take_rest bs 16) refl, read.1)
+    rw (read.0, f, ← read.1, take_rest bs 16) refl
+
+-- and the header says what its bytes say
+pub read_of_bytes : (bs : List ℕ) (h : Header) → header_read bs ≡ Ok h → h ≡ record { places = places_in bs; calls = call_count_in bs }
+read_of_bytes bs h e = sym (passes (header_test bs) _ h e).1
 
 -- what the header test tells
 pub record Passes (bs : List ℕ) : Type 0 where
@@ -63,8 +72,29 @@ call_passes n at k p h =
       known_place = leb-false _ _ (not_refused _ _ parts.1);
     }
 
-pub kind_byte_of : (k : ℕ) → 1 ≤ k → k ≤ 3 → kind_byte (kind_of k) ≡ k
-kind_byte_of k low high = grind (arith, nat_tests)
+pub kind_number_of : (k : ℕ) → 1 ≤ k → k ≤ 3 → kind_number (kind_of k) ≡ k
+kind_number_of k low high = grind (arith, nat_tests)
+
+-- each of the calls that pass passes its own test
+nth_passes : (n at k : ℕ) (bs : List ℕ) → calls_test n at bs ≡ Ok tt → 2 ≤ length (drop (2 * k) bs) → CallPasses n (get_or (drop (2 * k) bs) 0 0) (get_or (drop (2 * k) bs) 1 0)
+nth_passes n at k [] h long = let none : List ℕ = [] in absurd (omega (arith, length-drop (2 * k) none))
+nth_passes n at k (b ∷ []) h long = absurd (omega (arith, length-drop (2 * k) (b ∷ [])))
+nth_passes n at zero (b ∷ (p ∷ rest)) h long = call_passes n at b p (both_pass _ _ h).0
+nth_passes n at (suc k) (b ∷ (p ∷ rest)) h long =
+    let twice : 2 * suc k ≡ suc (suc (2 * k)) = omega arith in
+    rw twice (nth_passes n (at + 2) k rest (both_pass _ _ h).1 (rw twice at long))
+
+known : (k : ℕ) → 1 ≤ k → k ≤ 3 → IsOk (kind_numbered k)
+known k low high = grind (arith, nat_tests)
+
+-- before the end of a record that passes stands a byte that names a kind
+pub kind_known : (bs : List ℕ) (at : ℕ) → reading_test bs ≡ Ok tt → 16 ≤ at → at % 2 ≡ 0 → 2 ≤ length (drop at bs) → IsOk (kind_numbered (get_or (drop at bs) 0 0))
+kind_known bs at h low even long =
+    let k = (at - 16) / 2 in
+    let here : 16 + 2 * k ≡ at = omega arith in
+    let there : drop (2 * k) (drop 16 bs) ≡ drop at bs = drop-drop (2 * k) 16 bs ∙ ap (λ i. drop i bs) here in
+    let call = nth_passes (places_in bs) 16 k (drop 16 bs) (both_pass _ _ h).1 (rw there long) in
+    rw (← there) (known _ call.some_kind call.known_kind)
 
 -- what the test of m calls tells
 pub record CallsPass (n m : ℕ) (bs : List ℕ) : Type 0 where
@@ -82,7 +112,7 @@ calls_pass n at m (k ∷ (p ∷ rest)) e h =
     record {
       counted = omega (arith, more.counted);
       placed = (here.known_place, more.placed);
-      written_again = rw (kind_byte_of k here.some_kind here.known_kind, more.written_again) refl;
+      written_again = rw (kind_number_of k here.some_kind here.known_kind, more.written_again) refl;
     }
 
 -- a list is its first four fours and the rest

@@ -3,6 +3,7 @@ use Rattle.std.specs.Prelude.{ℕ, ◌+◌, ◌*◌, Bool, cond, not, ◌||◌, 
 use Rattle.record.specs.declared.call.RawCall.{RawCall}
 use Rattle.record.specs.declared.faults.RecordFault.{RecordFault}
 use Rattle.record.specs.declared.faults.RecordFault.TheVariants.{HeaderCut, PlaceCount, CallCount, CallOffset, WholeLength, CallKind, CallPlace, BufferCut}
+use Rattle.record.specs.declared.reader.Header.{Header}
 use Rattle.record.specs.Layout.{places_in, call_count_in, offset_in, length_in, call_bytes}
 
 abbrev pub refuse_if : Bool → RecordFault → Result Unit RecordFault
@@ -34,6 +35,10 @@ header_test bs =
     then counts_test (places_in bs) (call_count_in bs)
     then refuse_if (not (offset_in bs == 16)) CallOffset
     then refuse_if (not (length_in bs == 16 + 2 * call_count_in bs) || not (length_in bs == length bs)) WholeLength
+
+-- what the header says, or the first of its tests that fails
+abbrev pub header_read : List ℕ → Result Header RecordFault
+header_read bs = header_test bs then Ok (record { places = places_in bs; calls = call_count_in bs })
 
 -- all tests of the reader
 abbrev pub reading_test : List ℕ → Result Unit RecordFault

@@ -1,8 +1,10 @@
 -- How a bus record lies in bytes: its four numbers, low byte first, and then two bytes a call. Assumes nothing.
-use Rattle.std.specs.Prelude.{ℕ, ◌+◌, ◌*◌, ◌/◌, ◌%◌, cond, List, [], ◌∷◌, ◌++◌, length, drop, ◌==◌, slice_index}
-use Rattle.record.specs.declared.call.BusKind.{BusKind}
-use Rattle.record.specs.declared.call.BusKind.TheVariants.{Bid, Step, Leave}
-use Rattle.record.specs.declared.call.BusCall.{BusCall}
+use Rattle.std.specs.Prelude.{ℕ, ◌+◌, ◌*◌, ◌/◌, ◌%◌, List, [], ◌∷◌, ◌++◌, length, drop, slice_index}
+use Rattle.std.specs.Result.{result_unwrap_or}
+use Rattle.lock.specs.declared.Call.{Call}
+use Rattle.lock.specs.declared.Kind.{Kind}
+use Rattle.lock.specs.declared.Kind.TheVariants.{Leave}
+use Rattle.lock.specs.Kinds.{kind_number, kind_numbered}
 use Rattle.record.specs.declared.call.RawCall.{RawCall}
 
 -- the number in the four bytes from a place on
@@ -25,29 +27,24 @@ length_in bs = number_at bs 12
 abbrev pub number_bytes : ℕ → List ℕ
 number_bytes n = (n % 256) ∷ ((n / 256 % 256) ∷ ((n / 65536 % 256) ∷ ((n / 16777216 % 256) ∷ [])))
 
-abbrev pub kind_byte : BusKind → ℕ
-kind_byte Bid = 1
-kind_byte Step = 2
-kind_byte Leave = 3
+-- the kind that a byte names; of a byte that names none, which no record has, a leave
+abbrev pub kind_of : ℕ → Kind
+kind_of k = result_unwrap_or (kind_numbered k) Leave
 
--- the kind of a byte from 1 to 3
-abbrev pub kind_of : ℕ → BusKind
-kind_of k = cond (k == 1) Bid (cond (k == 2) Step Leave)
-
--- the call of two bytes whose kind is 1 to 3
-abbrev pub bus_call : RawCall → BusCall
+-- the call of two bytes whose first names a kind
+abbrev pub bus_call : RawCall → Call
 bus_call c = record { kind = kind_of c.kind; place = c.place }
 
-abbrev pub raw_call : BusCall → RawCall
-raw_call c = record { kind = kind_byte c.kind; place = c.place }
+abbrev pub raw_call : Call → RawCall
+raw_call c = record { kind = kind_number c.kind; place = c.place }
 
 -- the calls that lie one behind the other
-abbrev pub calls_of : List ℕ → List BusCall
+abbrev pub calls_of : List ℕ → List Call
 calls_of [] = []
 calls_of (k ∷ []) = []
 calls_of (k ∷ (p ∷ rest)) = bus_call (record { kind = k; place = p }) ∷ calls_of rest
 
-abbrev pub calls_in : List ℕ → List BusCall
+abbrev pub calls_in : List ℕ → List Call
 calls_in bs = calls_of (drop 16 bs)
 
 abbrev pub call_bytes : List RawCall → List ℕ

@@ -1,4 +1,5 @@
 pub mod Checks
+pub mod Examples
 pub mod Faults
 pub mod Layout
 pub mod Readers

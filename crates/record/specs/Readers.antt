@@ -3,11 +3,10 @@ use Rattle.std.specs.Prelude.{◌≡◌, ℕ, ◌+◌, ◌-◌, ◌*◌, ◌/◌
 use Rattle.std.specs.Result.{result_map_both}
 use Rattle.std.specs.List.{slice_get}
 use Rattle.std.specs.Option.{option_to_list}
-use Rattle.record.specs.declared.call.BusCall.{BusCall}
+use Rattle.lock.specs.declared.Call.{Call}
 use Rattle.record.specs.declared.faults.RecordFault.{RecordFault}
-use Rattle.record.specs.declared.reader.Header.{Header}
 use Rattle.record.specs.declared.reader.Reader.{Reader}
-use Rattle.record.specs.Checks.{◌then◌, header_test, reading_test}
+use Rattle.record.specs.Checks.{◌then◌, reading_test}
 use Rattle.record.specs.Layout.{places_in, call_count_in, calls_of, calls_in}
 
 pub record Reading : Type 0 where
@@ -29,9 +28,6 @@ reading r =
 abbrev pub opened : Result Reader RecordFault → Result Reading RecordFault
 opened r = result_map_both reading (λ e. e) r
 
-abbrev pub header_read : List ℕ → Result Header RecordFault
-header_read bs = header_test bs then Ok (record { places = places_in bs; calls = call_count_in bs })
-
 -- a reader before the first call of a record
 abbrev pub start_of : List ℕ → Reading
 start_of bs = record { bytes = bs; places = places_in bs; call_count = call_count_in bs; cursor = 16 }
@@ -45,7 +41,7 @@ abbrev pub position_of : Reading → ℕ
 position_of r = (r.cursor - 16) / 2
 
 -- the calls that are still to come
-abbrev pub calls_left : Reading → List BusCall
+abbrev pub calls_left : Reading → List Call
 calls_left r = calls_of (drop r.cursor r.bytes)
 
 abbrev pub at_byte : ℕ → Reading → Reading
@@ -60,7 +56,7 @@ abbrev pub rewound : Reading → Reading
 rewound r = at_byte 16 r
 
 -- what a call of the reader that was at S returns, and where it leaves the reader
-pub record NextCall (S : Reading) (r : Option BusCall) (T : Reading) : Type 0 where
+pub record NextCall (S : Reading) (r : Option Call) (T : Reading) : Type 0 where
   pub call : r ≡ slice_get (calls_left S) 0
   pub after : T ≡ moved S
   pub left : calls_left S ≡ option_to_list r ++ calls_left T

@@ -2,7 +2,7 @@
 -- AllByRecursion P xs, of the library, says that P holds of each element of xs.
 use Rattle.std.specs.Prelude.{◌≡◌, ℕ, ◌+◌, ◌*◌, ◌<◌, ◌≤◌, List, map, length, Ok, Result}
 use Rattle.std.specs.List.{AllByRecursion}
-use Rattle.record.specs.declared.call.BusCall.{BusCall}
+use Rattle.lock.specs.declared.Call.{Call}
 use Rattle.record.specs.declared.call.RawCall.{RawCall}
 use Rattle.record.specs.declared.faults.RecordFault.{RecordFault}
 use Rattle.record.specs.Checks.{◌then◌, reading_test}
@@ -10,7 +10,7 @@ use Rattle.record.specs.Layout.{places_in, call_count_in, calls_in, bus_call, ra
 
 pub record Content : Type 0 where
   pub places : ℕ
-  pub calls : List BusCall
+  pub calls : List Call
 
 -- what a record says, or the first test that it fails
 abbrev pub decode : List ℕ → Result Content RecordFault

@@ -2,6 +2,7 @@ ghost use Rattle.std.specs.Prelude.{◌≡◌, ◌+◌, ◌^◌, ◌<◌, length
 ghost use Rattle.record.specs.Checks.{counts_test, call_test, calls_test};
 
 use super::faults::RecordFault;
+use lock::Kind;
 
 const PLACE_LIMIT: u32 = 64;
 
@@ -28,9 +29,7 @@ pub(crate) fn check_call(places: u32, byte: usize, kind: u8, place: u8) -> Resul
     requires { byte + 1 < 2 ^ 64 }
     ensures { result ≡ call_test places byte kind place }
 {
-    if kind < 1 || kind > 3 {
-        return Err(RecordFault::CallKind { byte });
-    }
+    Kind::try_from(kind).map_err(|_| RecordFault::CallKind { byte })?;
     if u32::from(place) >= places {
         return Err(RecordFault::CallPlace { byte: byte + 1 });
     }
@@ -42,11 +41,10 @@ pub(crate) fn check_calls(places: u32, start: usize, calls: &[u8]) -> Result<(),
     requires { start + length calls.now < 2 ^ 64 }
     ensures { result ≡ calls_test places start calls.now }
 {
+    // A loop, since by the project's rule a call comes off the front of the rest.
     let mut rest = calls;
-    let mut byte = start;
     while let [kind, place, behind @ ..] = rest {
-        check_call(places, byte, *kind, *place)?;
-        byte += 2;
+        check_call(places, start + (calls.len() - rest.len()), *kind, *place)?;
         rest = behind;
     }
     Ok(())

@@ -1,11 +1,15 @@
-ghost use Rattle.std.specs.Prelude.{◌≡◌, Some};
+ghost use Rattle.std.specs.Prelude.{◌≡◌, ◌++◌, Some};
+ghost use Rattle.record.specs.Examples.{refusal_of, counts_of};
+ghost use Rattle.record.specs.Layout.{number_bytes};
+ghost use Rattle.record.specs.Readers.{opening};
 
 use super::reader::Reader;
 use fault::Fault;
 
 /// Opens 15 bytes, whatever they are.
 pub fn fifteen_bytes_are_refused_with_4_at_0(bytes: &[u8; 15]) -> Option<(u8, Option<usize>)>
-    ensures { result ≡ Some (4, Some 0) }
+    ensures value { result ≡ Some (4, Some 0) }
+    ensures from_opening { result ≡ refusal_of (opening bytes.now) }
 {
     match Reader::open(bytes) {
         Ok(_) => None,
@@ -15,7 +19,8 @@ pub fn fifteen_bytes_are_refused_with_4_at_0(bytes: &[u8; 15]) -> Option<(u8, Op
 
 /// Opens the header 2, 0, 16, 16 with nothing behind it, and asks for its places and calls.
 pub fn header_2_0_16_16_alone_is_accepted() -> Option<(usize, usize)>
-    ensures { result ≡ Some (2, 0) }
+    ensures value { result ≡ Some (2, 0) }
+    ensures from_opening { result ≡ counts_of (opening (number_bytes 2 ++ (number_bytes 0 ++ (number_bytes 16 ++ number_bytes 16)))) }
 {
     match Reader::open(&[2, 0, 0, 0, 0, 0, 0, 0, 16, 0, 0, 0, 16, 0, 0, 0]) {
         Ok(reader) => Some((reader.places(), reader.calls())),

@@ -3,7 +3,7 @@ ghost use Rattle.record.specs.Faults.{fault_number, fault_byte, fault_layer};
 use fault::{Fault, Layer};
 
 /// Why a record is not read or written. The two that a call is at fault for carry the byte.
-#[derive(Clone, Copy)]
+#[derive(Clone, Copy, Debug, PartialEq, Eq)]
 pub enum RecordFault {
     /// Under 16 bytes.
     HeaderCut,

@@ -9,7 +9,7 @@ mod reader;
 mod tests;
 mod writer;
 
-pub use call::{BusCall, BusKind, RawCall};
+pub use call::RawCall;
 pub use faults::RecordFault;
 pub use reader::Reader;
 pub use writer::write_record;

@@ -1,11 +1,12 @@
-ghost use Rattle.std.specs.Prelude.{◌≡◌, ◌+◌, ◌≤◌, length, IfOk, OnOk};
-ghost use Rattle.record.specs.Layout.{kind_of, number_at};
+ghost use Rattle.std.specs.Prelude.{◌≡◌, ◌+◌, ◌%◌, ◌≤◌, length, Ok, IfOk, OnOk};
+ghost use Rattle.record.specs.Layout.{number_at, places_in, call_count_in};
+ghost use Rattle.record.specs.Checks.{header_read, reading_test};
 ghost use Rattle.record.specs.RoundTrip.{Sound};
-ghost use Rattle.record.specs.Readers.{reading, header_read, opened, opening, start_of, rewound, position_of, NextCall};
+ghost use Rattle.std.proofs.Props.{props};
 
-use super::call::{BusCall, BusKind};
 use super::checks::{HEADER_LENGTH, check_calls, check_counts};
 use super::faults::RecordFault;
+use lock::{Call, Kind};
 
 // What the header of a record says.
 #[derive(Clone, Copy)]
@@ -21,6 +22,13 @@ pub struct Reader<'a> {
     header: Header,
     // The byte of the next call, or the end.
     cursor: usize,
+    // Every test passed, and what follows from that.
+    pub ghost passed: { reading_test bytes.now ≡ Ok tt },
+    pub ghost sound: { Sound bytes.now } by { Prim.hlevel props },
+    // The header is what the bytes say.
+    pub ghost counts: { (header.places ≡ places_in bytes.now) × (header.calls ≡ call_count_in bytes.now) },
+    // The cursor lies before a call or at the end.
+    pub ghost at_a_call: { (16 ≤ cursor) × (cursor % 2 ≡ 0) × (cursor ≤ length bytes.now) },
 }
 
 // The 32-bit number at `start`, low byte first.
@@ -28,12 +36,7 @@ fn number_at(bytes: &[u8], start: usize) -> u32
     requires { start + 4 ≤ length bytes.now }
     ensures { result ≡ number_at bytes.now start }
 {
-    u32::from_le_bytes([
-        bytes[start],
-        bytes[start + 1],
-        bytes[start + 2],
-        bytes[start + 3],
-    ])
+    u32::from_le_bytes(*bytes[start..].first_chunk().unwrap())
 }
 
 // Refuses by the tests that the header alone decides.
@@ -56,18 +59,9 @@ fn read_header(bytes: &[u8]) -> Result<Header, RecordFault>
     Ok(Header { places, calls })
 }
 
-// The kind of a byte that passed its test, and so is 1, 2 or 3.
-fn kind_of(byte: u8) -> BusKind
-    ensures { result ≡ kind_of byte }
-{
-    match byte {
-        1 => BusKind::Bid,
-        2 => BusKind::Step,
-        _ => BusKind::Leave,
-    }
-}
-
 impl<'a> Reader<'a> {
+    ghost use Rattle.record.specs.Readers.{reading, opened, opening, start_of, rewound, position_of, NextCall};
+
     /// Opens a record before its first call; refuses with the first test that fails.
     pub fn open(bytes: &'a [u8]) -> Result<Reader<'a>, RecordFault>
         ensures outcome { opened result ≡ opening bytes.now }
@@ -83,36 +77,39 @@ impl<'a> Reader<'a> {
         })
     }
 
-    /// How many places the record has.
+    /// How many places the record has, 1 to 64.
     pub fn places(&self) -> usize
-        ensures { result ≡ (reading self.now).places }
+        ensures value { result ≡ (reading self.now).places }
+        ensures bound { (1 ≤ result) × (result ≤ 64) }
     {
         self.header.places as usize
     }
 
-    /// How many calls the record has.
+    /// How many calls the record has, 20,000 at most.
     pub fn calls(&self) -> usize
-        ensures { result ≡ (reading self.now).call_count }
+        ensures value { result ≡ (reading self.now).call_count }
+        ensures bound { result ≤ 20000 }
     {
         self.header.calls
     }
 
-    /// How many calls have come since the record was opened or gone back to its start.
+    /// How many calls have come since the record was opened or gone back to its start, at most all.
     pub fn position(&self) -> usize
-        ensures { result ≡ position_of (reading self.now) }
+        ensures value { result ≡ position_of (reading self.now) }
+        ensures bound { result ≤ (reading self.now).call_count }
     {
-        self.cursor.saturating_sub(HEADER_LENGTH) / 2
+        (self.cursor - HEADER_LENGTH) / 2
     }
 
     /// The next call, and moves past it; none at the end, where it stays.
-    pub fn next_call(&mut self) -> Option<BusCall>
+    pub fn next_call(&mut self) -> Option<Call>
         ensures { NextCall (reading self.old) result (reading self.new) }
     {
-        let [kind, place, rest @ ..] = self.bytes.get(self.cursor..)? else {
+        let [kind, place, rest @ ..] = &self.bytes[self.cursor..] else {
             return None;
         };
-        let call = BusCall {
-            kind: kind_of(*kind),
+        let call = Call {
+            kind: Kind::try_from(*kind).unwrap(),
             place: *place as usize,
         };
         self.cursor = self.bytes.len() - rest.len();

@@ -1,8 +1,9 @@
-use super::call::{BusCall, BusKind, RawCall};
+use super::call::RawCall;
 use super::faults::RecordFault;
 use super::reader::Reader;
 use super::writer::write_record;
 use fault::Fault;
+use lock::Call;
 use std::process::Abort;
 use std::test::Fail;
 
@@ -391,28 +392,8 @@ fn sixty_four_places_and_20_000_calls_are_the_most(rt: HostRuntime) {
     );
 }
 
-fn bytes_of(call: Option<BusCall>) -> Option<(u8, usize)> {
-    match call {
-        Some(
-            BusCall {
-                kind: BusKind::Bid,
-                place,
-            },
-        ) => Some((1, place)),
-        Some(
-            BusCall {
-                kind: BusKind::Step,
-                place,
-            },
-        ) => Some((2, place)),
-        Some(
-            BusCall {
-                kind: BusKind::Leave,
-                place,
-            },
-        ) => Some((3, place)),
-        None => None,
-    }
+fn bytes_of(call: Option<Call>) -> Option<(u8, usize)> {
+    call.map(|call| (call.kind as u8, call.place))
 }
 
 #[test]

@@ -13,10 +13,8 @@ fn check_raw_calls(places: u32, calls: &[RawCall]) -> Result<(), RecordFault>
     requires { length calls.now ≤ 20000 }
     ensures { result ≡ calls_test places 16 (call_bytes calls.now) }
 {
-    let mut byte = HEADER_LENGTH;
-    for call in calls {
-        check_call(places, byte, call.kind, call.place)?;
-        byte += 2;
+    for (index, call) in calls.iter().enumerate() {
+        check_call(places, HEADER_LENGTH + 2 * index, call.kind, call.place)?;
     }
     Ok(())
 }
@@ -33,10 +31,8 @@ fn put_calls(buffer: &mut [u8], calls: &[RawCall])
     requires { 16 + 2 * length calls.now ≤ length buffer.old }
     ensures { buffer.new ≡ put_at buffer.old 16 (call_bytes calls.now) }
 {
-    let mut start = HEADER_LENGTH;
-    for call in calls {
-        put(buffer, start, &[call.kind, call.place]);
-        start += 2;
+    for (index, call) in calls.iter().enumerate() {
+        put(buffer, HEADER_LENGTH + 2 * index, &[call.kind, call.place]);
     }
 }
 

@@ -1,14 +1,9 @@
 -- What a replay does: which records it refuses, and that it reports a past of the lock. Assumes nothing.
-use Rattle.std.specs.Prelude.{◌≡◌, ℕ, ◌≤◌, cond, List, [], ◌∷◌, ◌++◌, map, length, take, Ok, Err, Result, ◌==◌, nat_lt}
+use Rattle.std.specs.Prelude.{◌≡◌, ℕ, ◌≤◌, cond, List, [], ◌∷◌, ◌++◌, length, take, Ok, Err, Result, ◌==◌, nat_lt}
 use Rattle.lock.specs.declared.Call.{Call}
-use Rattle.lock.specs.declared.Kind.{Kind}
-use Rattle.lock.specs.declared.Kind.TheVariants.{Bid, Step, Leave}
 use Rattle.lock.specs.Calls.{Reply}
 use Rattle.lock.specs.Meaning.{Form}
 use Rattle.lock.specs.Pasts.{Event, Past}
-use Rattle.record.specs.declared.call.BusCall.{BusCall}
-use Rattle.record.specs.declared.call.BusKind.{BusKind}
-use Rattle.record.specs.declared.call.BusKind.TheVariants.{Bid as BusBid, Step as BusStep, Leave as BusLeave}
 use Rattle.record.specs.declared.faults.RecordFault.{RecordFault}
 use Rattle.record.specs.Checks.{reading_test}
 use Rattle.record.specs.Layout.{places_in, call_count_in, calls_in}
@@ -30,18 +25,6 @@ abbrev pub replay_test : ℕ → ℕ → List ℕ → Result Unit ReplayFault
 replay_test places slots bs =
     carried (reading_test bs) (cond (places == places_in bs) (cond (nat_lt slots (call_count_in bs)) (Err ShortLog) (Ok tt)) (Err OtherPlaces))
 
-abbrev pub lock_kind : BusKind → Kind
-lock_kind BusBid = Bid
-lock_kind BusStep = Step
-lock_kind BusLeave = Leave
-
-abbrev pub lock_call : BusCall → Call
-lock_call c = record { kind = lock_kind c.kind; place = c.place }
-
--- the calls of a record, as calls on a lock
-abbrev pub record_calls : List ℕ → List Call
-record_calls bs = map lock_call (calls_in bs)
-
 -- the calls of a past in the order in which they were made; its newest event stands first
 abbrev pub calls_made : List Event → List Call
 calls_made [] = []
@@ -59,7 +42,7 @@ module _ {L : Type 0} (F : Form L) where
   pub record Replayed (s t : L) (bs : List ℕ) (log log' : List Entry) (summary : Summary) : Type 0 where
     pub events : List Event
     pub past : Past F s events t
-    pub calls : calls_made events ≡ record_calls bs
+    pub calls : calls_made events ≡ calls_in bs
     pub entries : log' ≡ logged events log
     -- the entries are the front of the log, as many as are counted
     pub room : summary.counts.enters ≤ length log

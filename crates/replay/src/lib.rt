@@ -3,7 +3,7 @@
 ghost use Rattle.std.specs.Prelude.{◌≡◌, ◌<◌, ◌≤◌, length};
 ghost use Rattle.record.specs.Readers.{reading};
 ghost use Rattle.lock.specs.Pasts.{Promises};
-ghost use Rattle.replay.specs.Replays.{lock_call, AtStart, Replayed, Outcome};
+ghost use Rattle.replay.specs.Replays.{AtStart, Replayed, Outcome};
 ghost use Rattle.replay.specs.Running.{noted, Ready, log_after};
 
 mod faults;
@@ -11,25 +11,10 @@ mod report;
 mod running;
 
 pub use faults::ReplayFault;
-use lock::{Answer, Call, Kind, Lock, Reply, call_on};
-use record::{BusCall, BusKind, Reader};
+use lock::{Answer, Call, Lock, Reply, call_on};
+use record::Reader;
 pub use report::{Counts, Entry, Summary};
 use running::Tally;
-
-// The call on a lock that a call of a record asks for.
-fn call_asked(call: BusCall) -> Call
-    ensures { result ≡ lock_call call }
-{
-    let kind = match call.kind {
-        BusKind::Bid => Kind::Bid,
-        BusKind::Step => Kind::Step,
-        BusKind::Leave => Kind::Leave,
-    };
-    Call {
-        kind,
-        place: call.place,
-    }
-}
 
 // Makes the call of this number, logs it if it enters, and counts it.
 fn make_call<L: Lock>(
@@ -70,7 +55,7 @@ fn make_calls<L: Lock>(lock: &mut L, mut reader: Reader<'_>, log: &mut [Entry]) 
             unreachable()
         };
         // The tally has counted the reply.
-        let _ = make_call(lock, call_asked(call), number, &mut tally, log);
+        let _ = make_call(lock, call, number, &mut tally, log);
     }
     tally.summary(reader.calls())
 }

@@ -1,21 +1,11 @@
 -- The first call that is left decides, or leaves the outcome to those behind it. Assumes nothing.
-use Rattle.std.proofs.Common.{sym, refl, ◌∙◌, arith}
-use Rattle.std.proofs.lemmas.List.{drop_more, drop_all}
-use Rattle.std.proofs.lemmas.Result.{err_from_is_err_and}
+use Rattle.std.proofs.Common.{◌≡◌, ◌+◌, ◌*◌, sym, refl, ◌∙◌, arith}
+use Rattle.std.proofs.lemmas.List.{drop_more}
 use Rattle.record.proofs.writer.check_raw_calls.Goals as goal
 
-pub returns-in_err-check_call : goal.returns-in_err-check_call
-returns-in_err-check_call c =
-    let p = err_from_is_err_and c.from_residual.result c.from_residual.ensures.1 in
-    let left = drop_more c.args.calls.now c.loop-call.call-index (record { kind = 0; place = 0 }) c.loop-call-test.true in
-    let failed = sym c.check_call.ensures ∙ c.in_err-check_call.was in
-    rw (p.1, p.2, ← c.loop-call.invariant.1, left, failed) refl
-
-pub loop-call-preserved : goal.loop-call-preserved
-loop-call-preserved c =
-    let left = drop_more c.args.calls.now c.loop-call.call-index (record { kind = 0; place = 0 }) c.loop-call-test.true in
+pub loop-index-preserved : goal.loop-index-preserved
+loop-index-preserved c =
+    let next : 16 + 2 * (c.loop-index.index + 1) ≡ 16 + 2 * c.loop-index.index + 2 = omega arith in
+    let left = drop_more c.args.calls.now c.loop-index.index (record { kind = 0; place = 0 }) c.loop-index-test.true in
     let passed = sym c.check_call.ensures ∙ c.in_ok-check_call.was in
-    (omega arith, rw (← c.loop-call.invariant.1, left, passed) refl)
-
-pub returns : goal.returns
-returns c = rw (drop_all c.loop-call.call-index c.args.calls.now c.loop-call-test.false) at c.loop-call.invariant.1
+    rw (← c.loop-index.invariant, left, passed, next) refl

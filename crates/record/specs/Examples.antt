@@ -1,0 +1,15 @@
+-- What the examples ask of opening a record. Assumes nothing.
+use Rattle.std.specs.Prelude.{ℕ, Some, None, Ok, Err, Option, Result}
+use Rattle.record.specs.declared.faults.RecordFault.{RecordFault}
+use Rattle.record.specs.Faults.{fault_number, fault_byte}
+use Rattle.record.specs.Readers.{Reading}
+
+-- the number and the byte with which a record is refused
+abbrev pub refusal_of : Result Reading RecordFault → Option (ℕ × Option ℕ)
+refusal_of (Ok reader) = None
+refusal_of (Err fault) = Some (fault_number fault, fault_byte fault)
+
+-- the places and the calls of a record that opens
+abbrev pub counts_of : Result Reading RecordFault → Option (ℕ × ℕ)
+counts_of (Ok reader) = Some (reader.places, reader.call_count)
+counts_of (Err fault) = None
