@@ -1,6 +1,6 @@
 -- What holds while the calls of a record are made: a past, and all that is kept of it. Assumes nothing.
 use Rattle.std.proofs.Common.{◌≡◌, ℕ, zero, suc, ◌+◌, ◌*◌, ◌<◌, ◌≤◌, Bool, List, [], ◌∷◌, ◌++◌, map, length, get_or, take, Some, Option, sym, refl, ap, ◌∙◌, subst, add-one, arith}
-use Rattle.std.proofs.lemmas.List.{take_all, take_at, length-map}
+use Rattle.std.proofs.lemmas.List.{take_all, take_at}
 use Rattle.std.proofs.lemmas.Option.{slice_get-get_or}
 use Rattle.std.proofs.lemmas.Bool.{le-ltb}
 use Rattle.std.specs.List.{slice_get, AllByRecursion}
@@ -8,14 +8,13 @@ use Rattle.lock.specs.declared.Call.{Call}
 use Rattle.lock.specs.Calls.{Reply}
 use Rattle.lock.specs.Meaning.{Form}
 use Rattle.lock.specs.Pasts.{Event, Run, Past, Economy, is_entry, work, stretches}
-use Rattle.record.specs.declared.call.BusCall.{BusCall}
-use Rattle.record.specs.declared.call.BusKind.TheVariants.{Bid}
+use Rattle.lock.specs.declared.Kind.TheVariants.{Bid}
 use Rattle.record.specs.Layout.{calls_in, places_in}
 use Rattle.record.specs.Readers.{Reading, NextCall, at_byte, moved}
 use Rattle.replay.specs.declared.report.Entry.{Entry}
 use Rattle.replay.specs.declared.report.Summary.{Summary}
 use Rattle.replay.specs.declared.running.Tally.{Tally}
-use Rattle.replay.specs.Replays.{AtStart, Replayed, lock_call, record_calls, calls_made}
+use Rattle.replay.specs.Replays.{AtStart, Replayed, calls_made}
 use Rattle.replay.specs.Reports.{count, counts_of, most_work, gap, summary_of, entries, logged}
 use Rattle.replay.specs.Running.{noted, Ready, Room, log_after, summarized}
 use Rattle.replay.proofs.Counting.{counts_more, count_le}
@@ -51,10 +50,10 @@ at_number P [] k x h e = absurd (let z : ◌≡◌ {A = ℕ} 0 1 = cc in omega a
 at_number P (y ∷ xs) zero x h e = let same : y ≡ x = cc in subst P same h.0
 at_number P (y ∷ xs) (suc k) x h e = at_number P xs k x h.1 e
 
-take_mapped : (cs : List BusCall) (k : ℕ) (c : BusCall) → slice_get cs k ≡ Some c → take (suc k) (map lock_call cs) ≡ take k (map lock_call cs) ++ (lock_call c ∷ [])
-take_mapped [] k c e = cc
-take_mapped (d ∷ cs) zero c e = let same : d ≡ c = cc in rw same refl
-take_mapped (d ∷ cs) (suc k) c e = ap (λ (l : List Call). lock_call d ∷ l) (take_mapped cs k c e)
+take_one_more : (cs : List Call) (k : ℕ) (c : Call) → slice_get cs k ≡ Some c → take (suc k) cs ≡ take k cs ++ (c ∷ [])
+take_one_more [] k c e = cc
+take_one_more (d ∷ cs) zero c e = let same : d ≡ c = cc in rw same refl
+take_one_more (d ∷ cs) (suc k) c e = ap (λ (l : List Call). d ∷ l) (take_one_more cs k c e)
 
 -- a gap within each stretch's limit
 gap_within : (M : ℕ) (ss : List (List Event)) → AllByRecursion (λ stretch. work stretch ≤ M) ss → most_work ss ≤ M
@@ -67,7 +66,7 @@ module _ {L : Type 0} (F : Form L) where
     pub events : List Event
     pub run : Run F s events t
     pub long : length events ≡ number
-    pub calls : calls_made events ≡ take number (record_calls start.bytes)
+    pub calls : calls_made events ≡ take number (calls_in start.bytes)
     pub placed : Placed events
     pub tally_is : tally ≡ tally_of events
     pub log_is : log ≡ logged events log₀
@@ -108,17 +107,17 @@ module _ {L : Type 0} (F : Form L) where
             placed = placed;
           })
 
-      module _ (r : Option BusCall) (after : Reading) (next : NextCall reader r after) where
+      module _ (r : Option Call) (after : Reading) (next : NextCall reader r after) where
         numbered : r ≡ slice_get (calls_in start.bytes) number
         numbered =
             next.numbered number (ap (λ (x : Reading). x.cursor) so_far.reader_is) ∙ ap (λ (x : Reading). slice_get (calls_in x.bytes) number) so_far.reader_is
 
-        pub not_ended : ((c : BusCall) → r ≡ Some c → ⊥) → ⊥
+        pub not_ended : ((c : Call) → r ≡ Some c → ⊥) → ⊥
         not_ended none =
             none (get_or (calls_in start.bytes) number (record { kind = Bid; place = 0 }))
             (numbered ∙ slice_get-get_or (calls_in start.bytes) number (record { kind = Bid; place = 0 }) (omega (arith, left, at_start.counted, at_start.sound.counted)))
 
-        pub call_placed : (c : BusCall) → r ≡ Some c → c.place < 64
+        pub call_placed : (c : Call) → r ≡ Some c → c.place < 64
         call_placed c e =
             omega (arith, at_number (λ x. x.place < places_in start.bytes) (calls_in start.bytes) number c at_start.sound.placed (sym numbered ∙ e), at_start.sound.few_places)
 
@@ -129,20 +128,19 @@ module _ {L : Type 0} (F : Form L) where
             let further : 16 + 2 * number + 2 ≡ 16 + 2 * (number + 1) = omega arith in
             from ∙ rw within (ap (λ (k : ℕ). at_byte k start) further)
 
-        pub one_more : (c : BusCall) → r ≡ Some c → (d : Call) → d ≡ lock_call c → (u : L) (reply : Reply) (log' : List Entry) (tally' : Tally) → F.takes t d reply u → tally' ≡ noted tally d reply → log' ≡ log_after log tally.counts.enters number d reply → SoFar s u start (number + 1) log₀ log' tally' after
-        one_more c is d asked u reply log' tally' took counted logs =
-            let e : Event = record { call = d; reply = reply } in
-            let next-call : take (number + 1) (record_calls start.bytes) ≡ take number (record_calls start.bytes) ++ (lock_call c ∷ []) = rw add-one (take_mapped (calls_in start.bytes) number c (sym numbered ∙ is)) in
+        pub one_more : (c : Call) → r ≡ Some c → (u : L) (reply : Reply) (log' : List Entry) (tally' : Tally) → F.takes t c reply u → tally' ≡ noted tally c reply → log' ≡ log_after log tally.counts.enters number c reply → SoFar s u start (number + 1) log₀ log' tally' after
+        one_more c is u reply log' tally' took counted logs =
+            let e : Event = record { call = c; reply = reply } in
+            let next-call : take (number + 1) (calls_in start.bytes) ≡ take number (calls_in start.bytes) ++ (c ∷ []) = rw add-one (take_one_more (calls_in start.bytes) number c (sym numbered ∙ is)) in
             record {
               events = e ∷ so_far.events;
               run = (t, so_far.run, took);
               long = omega (arith, so_far.long);
-              calls = ap (λ (l : List Call). l ++ (d ∷ [])) so_far.calls
-                  ∙ ap (λ (x : Call). take number (record_calls start.bytes) ++ (x ∷ [])) asked ∙ sym next-call;
-              placed = (omega (arith, call_placed c is, ap (λ (x : Call). x.place) asked), so_far.placed);
-              tally_is = counted ∙ ap (λ (x : Tally). noted x d reply) so_far.tally_is ∙ tally_more e so_far.events;
-              log_is = logs ∙ ap (λ (x : List Entry). log_after x tally.counts.enters number d reply) so_far.log_is
-                  ∙ ap (λ (k : ℕ). log_after (logged so_far.events log₀) tally.counts.enters k d reply) (sym so_far.long)
+              calls = ap (λ (l : List Call). l ++ (c ∷ [])) so_far.calls ∙ sym next-call;
+              placed = (call_placed c is, so_far.placed);
+              tally_is = counted ∙ ap (λ (x : Tally). noted x c reply) so_far.tally_is ∙ tally_more e so_far.events;
+              log_is = logs ∙ ap (λ (x : List Entry). log_after x tally.counts.enters number c reply) so_far.log_is
+                  ∙ ap (λ (k : ℕ). log_after (logged so_far.events log₀) tally.counts.enters k c reply) (sym so_far.long)
                   ∙ logged_more e so_far.events log₀ tally.counts.enters enters_number enters_within;
               reader_is = moved_on;
             }
@@ -151,7 +149,7 @@ module _ {L : Type 0} (F : Form L) where
     pub all_made : (t : L) (number : ℕ) (log : List Entry) (tally : Tally) (reader : Reading) → SoFar s t start number log₀ log tally reader → start.call_count ≤ number → number ≤ start.call_count → (lock : L) → s ≡ F.made lock → Economy F → (n : ℕ) → n ≡ reader.call_count → (summary : Summary) → summary ≡ summarized n tally → Replayed F lock t start.bytes log₀ log summary
     all_made t number log tally reader so_far done ends lock is economy n counted summary sums =
         let past : Past F lock so_far.events t = subst (λ (x : L). Run F x so_far.events t) is so_far.run in
-        let all = take_all number (record_calls start.bytes) (omega (arith, done, at_start.counted, at_start.sound.counted, length-map (calls_in start.bytes) lock_call)) in
+        let all = take_all number (calls_in start.bytes) (omega (arith, done, at_start.counted, at_start.sound.counted)) in
         let many : n ≡ length so_far.events = omega (arith, counted, ap (λ (x : Reading). x.call_count) so_far.reader_is, done, ends, so_far.long) in
         let report : summary ≡ summary_of so_far.events = sums ∙ ap (summarized n) so_far.tally_is ∙ (λ i. record { calls = many i; counts = counts_of so_far.events; gap = gap so_far.events; passed = passed_is so_far.events so_far.placed i }) in
         let enters : summary.counts.enters ≡ length (entries so_far.events) = ap (λ (x : Summary). x.counts.enters) report ∙ sym (entries_counted so_far.events) in

@@ -22,22 +22,22 @@ unreachable-requires g c =
     let k = g.L.Lock in
     not_ended k.form c.put_back.new.self (reading c.args.reader) c.args.log.now c.requires.start c.requires.slots
     c.loop-number.lock c.loop-number.number c.loop-number.log c.loop-number.tally (reading c.loop-number.reader) c.loop-number.invariant
-    (omega (arith, c.loop-number-test.true, c.calls-number-end.ensures)) c.next_call.result (reading c.next_call.new.self) c.next_call.ensures c.in_default.not-Some
+    (omega (arith, c.loop-number-test.true, c.calls-number-end.ensures.value)) c.next_call.result (reading c.next_call.new.self) c.next_call.ensures c.in_default.not-Some
 
 pub make_call-requires-clause-ready : goal.make_call-requires-clause-ready
 make_call-requires-clause-ready g c =
     let k = g.L.Lock in
-    let left : c.loop-number.number < (reading c.args.reader).call_count = omega (arith, c.loop-number-test.true, c.calls-number-end.ensures) in
+    let left : c.loop-number.number < (reading c.args.reader).call_count = omega (arith, c.loop-number-test.true, c.calls-number-end.ensures.value) in
     let placed = call_placed k.form c.put_back.new.self (reading c.args.reader) c.args.log.now c.requires.start c.requires.slots
     c.loop-number.lock c.loop-number.number c.loop-number.log c.loop-number.tally (reading c.loop-number.reader) c.loop-number.invariant
     left c.next_call.result (reading c.next_call.new.self) c.next_call.ensures c.in-Some.call c.in-Some.is in
     ready k.form c.put_back.new.self (reading c.args.reader) c.args.log.now c.requires.start c.requires.slots
-    c.loop-number.lock c.loop-number.number c.loop-number.log c.loop-number.tally (reading c.loop-number.reader) c.loop-number.invariant left c.call_asked.result (omega (arith, placed, ap (λ (x : Call). x.place) c.call_asked.ensures))
+    c.loop-number.lock c.loop-number.number c.loop-number.log c.loop-number.tally (reading c.loop-number.reader) c.loop-number.invariant left c.in-Some.call placed
 
 pub make_call-requires-clause-slot : goal.make_call-requires-clause-slot
 make_call-requires-clause-slot g c =
     let k = g.L.Lock in
-    let left : c.loop-number.number < (reading c.args.reader).call_count = omega (arith, c.loop-number-test.true, c.calls-number-end.ensures) in
+    let left : c.loop-number.number < (reading c.args.reader).call_count = omega (arith, c.loop-number-test.true, c.calls-number-end.ensures.value) in
     omega (
       arith,
       c.loop-number.auto.log,
@@ -50,8 +50,8 @@ loop-number-preserved g c =
     let k = g.L.Lock in
     one_more k.form c.put_back.new.self (reading c.args.reader) c.args.log.now c.requires.start c.requires.slots
     c.loop-number.lock c.loop-number.number c.loop-number.log c.loop-number.tally (reading c.loop-number.reader) c.loop-number.invariant
-    (omega (arith, c.loop-number-test.true, c.calls-number-end.ensures)) c.next_call.result (reading c.next_call.new.self) c.next_call.ensures
-    c.in-Some.call c.in-Some.is c.call_asked.result c.call_asked.ensures c.make_call.new.lock c.make_call.result c.make_call.new.log c.make_call.new.tally
+    (omega (arith, c.loop-number-test.true, c.calls-number-end.ensures.value)) c.next_call.result (reading c.next_call.new.self) c.next_call.ensures
+    c.in-Some.call c.in-Some.is c.make_call.new.lock c.make_call.result c.make_call.new.log c.make_call.new.tally
     c.make_call.ensures.outcome c.make_call.ensures.count c.make_call.ensures.entry
 
 pub returns : goal.returns
@@ -59,4 +59,4 @@ returns g c =
     let k = g.L.Lock in
     all_made k.form c.put_back.new.self (reading c.args.reader) c.args.log.now c.requires.start c.requires.slots
     c.loop-number.lock c.loop-number.number c.loop-number.log c.loop-number.tally (reading c.loop-number.reader) c.loop-number.invariant
-    (omega (arith, c.loop-number-test.false, c.calls-number-end.ensures)) (omega (arith, c.loop-number.auto.number-end, c.calls-number-end.ensures)) c.args.lock.now c.put_back.ensures (promises g.met.L.Lock.keeps).economy c.calls.result c.calls.ensures c.summary.result c.summary.ensures
+    (omega (arith, c.loop-number-test.false, c.calls-number-end.ensures.value)) (omega (arith, c.loop-number.auto.number-end, c.calls-number-end.ensures.value)) c.args.lock.now c.put_back.ensures (promises g.met.L.Lock.keeps).economy c.calls.result c.calls.ensures.value c.summary.result c.summary.ensures
