@@ -44,6 +44,9 @@ position_of r = (r.cursor - 16) / 2
 abbrev pub calls_left : Reading → List Call
 calls_left r = calls_of (drop r.cursor r.bytes)
 
+abbrev pub still_to_come : Reader → List Call
+still_to_come r = calls_left (reading r)
+
 abbrev pub at_byte : ℕ → Reading → Reading
 at_byte k r = record { bytes = r.bytes; places = r.places; call_count = r.call_count; cursor = k }
 

@@ -123,3 +123,19 @@ impl<'a> Reader<'a> {
         self.cursor = HEADER_LENGTH;
     }
 }
+
+/// The calls that are still to come, one after the other.
+impl Iterator for Reader<'_> {
+    ghost use Rattle.std.specs.Iterator.{YieldsFirst, item_count};
+    ghost use Rattle.record.specs.Readers.{still_to_come};
+
+    type Item = Call;
+
+    ghost next_gives = { YieldsFirst still_to_come };
+
+    ghost remaining = { item_count still_to_come };
+
+    fn next(&mut self) -> Option<Call> {
+        self.next_call()
+    }
+}

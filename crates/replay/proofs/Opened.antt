@@ -5,38 +5,26 @@ use Rattle.record.specs.declared.faults.RecordFault.{RecordFault}
 use Rattle.record.specs.declared.reader.Reader.{Reader}
 use Rattle.record.specs.Checks.{◌then◌, reading_test}
 use Rattle.record.specs.Layout.{places_in, call_count_in}
-use Rattle.record.specs.Readers.{Reading, reading, opened, opening}
-use Rattle.record.specs.RoundTrip.{Sound}
+use Rattle.record.specs.Readers.{Reading, reading, opened, opening, start_of}
 use Rattle.replay.specs.declared.faults.ReplayFault.TheVariants.{OfRecord, OtherPlaces, ShortLog}
-use Rattle.replay.specs.Replays.{AtStart, replay_test}
-
-passed_test : {X : Type 0} (t : Result Unit RecordFault) (x y : X) → Ok x ≡ (t then Ok y) → (t ≡ Ok tt) × (x ≡ y)
-passed_test (Ok u) x y e = (refl, cc)
-passed_test (Err f) x y e = absurd (let z : ◌≡◌ {A = ℕ} 0 1 = cc in omega arith)
+use Rattle.replay.specs.Replays.{replay_test}
 
 failed_test : {X : Type 0} (t : Result Unit RecordFault) (y : X) (f : RecordFault) → Err f ≡ (t then Ok y) → t ≡ Err f
 failed_test (Ok u) y f e = cc
 failed_test (Err g) y f e = cc
 
--- a reader before the first call of a record
-abbrev at_first : List ℕ → Reading
-at_first bs = record { bytes = bs; places = places_in bs; call_count = call_count_in bs; cursor = 16 }
-
 pub refused_by_record : (bs : List ℕ) (f : RecordFault) (n slots : ℕ) → opened (Err f) ≡ opening bs → replay_test n slots bs ≡ Err (OfRecord f)
-refused_by_record bs f n slots e = let is = failed_test (reading_test bs) (at_first bs) f e in rw is refl
+refused_by_record bs f n slots e = let is = failed_test (reading_test bs) (start_of bs) f e in rw is refl
 
-module _ (bs : List ℕ) (reader : Reader) (e : opened (Ok reader) ≡ opening bs) where
-  passes : reading_test bs ≡ Ok tt
-  passes = (passed_test (reading_test bs) (reading reader) (at_first bs) e).0
-
-  begins : reading reader ≡ at_first bs
-  begins = (passed_test (reading_test bs) (reading reader) (at_first bs) e).1
-
+module _ (bs : List ℕ) (reader : Reader) (begins : reading reader ≡ start_of bs) where
   pub bytes_same : (reading reader).bytes ≡ bs
   bytes_same = ap (λ (r : Reading). r.bytes) begins
 
-  pub at_start : Sound bs → AtStart (reading reader)
-  at_start sound = subst AtStart (sym begins) (record { sound = sound; counted = refl; cursor = refl })
+  pub at_start : (reading reader).cursor ≡ 16
+  at_start = ap (λ (r : Reading). r.cursor) begins
+
+  passes : reading_test bs ≡ Ok tt
+  passes = subst (λ (x : List ℕ). reading_test x ≡ Ok tt) bytes_same reader.passed
 
   pub other_places : (n slots : ℕ) → (n ≡ (reading reader).places → ⊥) → replay_test n slots bs ≡ Err OtherPlaces
   other_places n slots ne =

@@ -1,14 +1,11 @@
 -- What a replay does: which records it refuses, and that it reports a past of the lock. Assumes nothing.
 use Rattle.std.specs.Prelude.{◌≡◌, ℕ, ◌≤◌, cond, List, [], ◌∷◌, ◌++◌, length, take, Ok, Err, Result, ◌==◌, nat_lt}
 use Rattle.lock.specs.declared.Call.{Call}
-use Rattle.lock.specs.Calls.{Reply}
 use Rattle.lock.specs.Meaning.{Form}
 use Rattle.lock.specs.Pasts.{Event, Past}
 use Rattle.record.specs.declared.faults.RecordFault.{RecordFault}
 use Rattle.record.specs.Checks.{reading_test}
 use Rattle.record.specs.Layout.{places_in, call_count_in, calls_in}
-use Rattle.record.specs.Readers.{Reading}
-use Rattle.record.specs.RoundTrip.{Sound}
 use Rattle.replay.specs.declared.faults.ReplayFault.{ReplayFault}
 use Rattle.replay.specs.declared.faults.ReplayFault.TheVariants.{OfRecord, OtherPlaces, ShortLog}
 use Rattle.replay.specs.declared.report.Entry.{Entry}
@@ -29,12 +26,6 @@ replay_test places slots bs =
 abbrev pub calls_made : List Event → List Call
 calls_made [] = []
 calls_made (e ∷ es) = calls_made es ++ (e.call ∷ [])
-
--- a reader of a record that passed its tests, before the first call
-pub record AtStart (r : Reading) : Type 0 where
-  pub sound : Sound r.bytes
-  pub counted : r.call_count ≡ call_count_in r.bytes
-  pub cursor : r.cursor ≡ 16
 
 module _ {L : Type 0} (F : Form L) where
   -- a record was replayed on the lock s and left t: there is a past of s that is made of exactly

@@ -86,6 +86,7 @@ most_waited w = fold (λ n o. max n (since w.entries o)) w.most w.before
 abbrev pub noted : Tally → Call → Reply → Tally
 noted t c r =
     record {
+      calls = t.calls + 1;
       counts = counted t.counts c.kind r;
       stretch = stretched t.stretch r;
       waiting = waited t.waiting c r;
@@ -93,13 +94,14 @@ noted t c r =
 
 -- room for one call more, at a place that a record may have
 pub record Ready (t : Tally) (c : Call) : Type 0 where
+  pub calls : t.calls < 1000000
   pub counts : Room t.counts
   pub stretch : t.stretch.length < 1000000
   pub entries : t.waiting.entries < 1000000
   pub placed : c.place < 64
 
-abbrev pub summarized : ℕ → Tally → Summary
-summarized n t = record { calls = n; counts = t.counts; gap = t.stretch.longest; passed = most_waited t.waiting }
+abbrev pub summarized : Tally → Summary
+summarized t = record { calls = t.calls; counts = t.counts; gap = t.stretch.longest; passed = most_waited t.waiting }
 
 -- the log after one call more, the k-th, where there are so many entries before
 abbrev pub log_after : List Entry → ℕ → ℕ → Call → Reply → List Entry

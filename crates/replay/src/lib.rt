@@ -3,7 +3,7 @@
 ghost use Rattle.std.specs.Prelude.{◌≡◌, ◌<◌, ◌≤◌, length};
 ghost use Rattle.record.specs.Readers.{reading};
 ghost use Rattle.lock.specs.Pasts.{Promises};
-ghost use Rattle.replay.specs.Replays.{AtStart, Replayed, Outcome};
+ghost use Rattle.replay.specs.Replays.{Replayed, Outcome};
 ghost use Rattle.replay.specs.Running.{noted, Ready, log_after};
 
 mod faults;
@@ -16,24 +16,18 @@ use record::Reader;
 pub use report::{Counts, Entry, Summary};
 use running::Tally;
 
-// Makes the call of this number, logs it if it enters, and counts it.
-fn make_call<L: Lock>(
-    lock: &mut L,
-    call: Call,
-    number: usize,
-    tally: &mut Tally,
-    log: &mut [Entry],
-) -> Reply
+// Makes a call, logs it if it enters, and counts it.
+fn make_call<L: Lock>(lock: &mut L, call: Call, tally: &mut Tally, log: &mut [Entry]) -> Reply
     requires ready { Ready tally.old call }
     requires slot { tally.old.counts.enters < length log.old }
     ensures outcome { L.form.takes lock.old call result lock.new }
     ensures count { tally.new ≡ noted tally.old call result }
-    ensures entry { log.new ≡ log_after log.old tally.old.counts.enters number call result }
+    ensures entry { log.new ≡ log_after log.old tally.old.counts.enters tally.old.calls call result }
 {
     let reply = call_on(lock, call);
     if let Ok(Some(Answer::Enters)) = reply {
         log[tally.entries()] = Entry {
-            call: number,
+            call: tally.calls(),
             place: call.place,
         };
     }
@@ -42,22 +36,18 @@ fn make_call<L: Lock>(
 }
 
 // Puts the lock back and makes each call of a record that has passed its tests.
-fn make_calls<L: Lock>(lock: &mut L, mut reader: Reader<'_>, log: &mut [Entry]) -> Summary
-    requires start { AtStart (reading reader) }
+fn make_calls<L: Lock>(lock: &mut L, reader: Reader<'_>, log: &mut [Entry]) -> Summary
+    requires start { (reading reader).cursor ≡ 16 }
     requires slots { (reading reader).call_count ≤ length log.old }
     ensures { Replayed L.form lock.old lock.new (reading reader.entry).bytes log.old log.new result }
 {
     lock.put_back();
     let mut tally = Tally::default();
-    for number in 0..reader.calls() {
-        // There are as many calls as the header says.
-        let Some(call) = reader.next_call() else {
-            unreachable()
-        };
+    for call in reader {
         // The tally has counted the reply.
-        let _ = make_call(lock, call, number, &mut tally, log);
+        let _ = make_call(lock, call, &mut tally, log);
     }
-    tally.summary(reader.calls())
+    tally.summary()
 }
 
 /// Replays the record in these bytes on a lock: puts the lock back, makes each call, and logs the entries from the

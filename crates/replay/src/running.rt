@@ -87,7 +87,10 @@ fn entries_since(entries: usize, before: Option<usize>) -> usize
 fn most_since(entries: usize, most: usize, bids: &[Option<usize>]) -> usize
     ensures { result ≡ fold (λ n o. max n (since entries o)) most bids.now }
 {
-    bids.iter().fold(most, |most, before| most.max(entries_since(entries, *before)))
+    bids.iter().fold(
+        most,
+        |most, before| most.max(entries_since(entries, *before)),
+    )
 }
 
 impl Waiting {
@@ -119,6 +122,7 @@ impl Waiting {
 // All that a replay counts while the calls are made.
 #[derive(Clone, Copy, Default)]
 pub(crate) struct Tally {
+    calls: usize,
     counts: Counts,
     stretch: Stretch,
     waiting: Waiting,
@@ -129,9 +133,17 @@ impl Tally {
         requires { Ready self.old call }
         ensures { self.new ≡ noted self.old call reply }
     {
+        self.calls += 1;
         self.counts.note(call.kind, reply);
         self.stretch.note(reply);
         self.waiting.note(call, reply);
+    }
+
+    // The calls so far.
+    pub(crate) fn calls(&self) -> usize
+        ensures { result ≡ self.now.calls }
+    {
+        self.calls
     }
 
     // The entries so far.
@@ -141,12 +153,12 @@ impl Tally {
         self.counts.enters
     }
 
-    // What is reported after so many calls.
-    pub(crate) fn summary(&self, calls: usize) -> Summary
-        ensures { result ≡ summarized calls self.now }
+    // What is reported after these calls.
+    pub(crate) fn summary(&self) -> Summary
+        ensures { result ≡ summarized self.now }
     {
         Summary {
-            calls,
+            calls: self.calls,
             counts: self.counts,
             gap: self.stretch.longest(),
             passed: self.waiting.most(),

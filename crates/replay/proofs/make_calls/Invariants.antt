@@ -1,9 +1,8 @@
-use Rattle.record.specs.Readers.{reading}
+use Rattle.record.specs.Readers.{still_to_come}
 use Rattle.replay.proofs.SoFar.{SoFar}
 use Rattle.replay.proofs.make_calls.Given as goal
 
 -- the calls so far are a past, and all that is kept is of it
-abbrev pub invariant-loop-number : goal.invariant-loop-number
-invariant-loop-number g l =
-    let k = g.L.Lock in
-    SoFar k.form l.initial.lock l.lock (reading l.initial.reader) l.number l.initial.log l.log l.tally (reading l.reader)
+abbrev pub invariant-loop-call : goal.invariant-loop-call
+invariant-loop-call g l =
+    SoFar g.L.Lock.form l.initial.lock l.lock (still_to_come l.fn.reader) (still_to_come l.call-iterator) l.initial.log l.log l.tally

@@ -17,27 +17,27 @@ returns-in_err-reader g c =
 pub returns-then-places : goal.returns-then-places
 returns-then-places g c =
     record {
-      outcome = (other_places c.args.bytes.now c.in_ok-reader.reader c.in_ok-reader.ensures.outcome _ _ (λ same. c.if-places.true (c.places.ensures.value ∙ same ∙ sym c.places-2.ensures.value)), refl, refl);
+      outcome = (other_places c.args.bytes.now c.in_ok-reader.reader c.in_ok-reader.ensures.start _ _ (λ same. c.if-places.true (c.places.ensures.value ∙ same ∙ sym c.places-2.ensures.value)), refl, refl);
       promises = promises g.met.L.Lock.keeps;
     }
 
 pub returns-then-log-calls : goal.returns-then-log-calls
 returns-then-log-calls g c =
     record {
-      outcome = (short_log c.args.bytes.now c.in_ok-reader.reader c.in_ok-reader.ensures.outcome _ _ (sym c.places.ensures.value ∙ c.if-places.false ∙ c.places-2.ensures.value) (omega (arith, c.if-log-calls.true, c.calls.ensures.value)), refl, refl);
+      outcome = (short_log c.args.bytes.now c.in_ok-reader.reader c.in_ok-reader.ensures.start _ _ (sym c.places.ensures.value ∙ c.if-places.false ∙ c.places-2.ensures.value) (omega (arith, c.if-log-calls.true, c.calls.ensures.value)), refl, refl);
       promises = promises g.met.L.Lock.keeps;
     }
 
 pub make_calls-requires-clause-start : goal.make_calls-requires-clause-start
 make_calls-requires-clause-start g c =
-    at_start c.args.bytes.now c.in_ok-reader.reader c.in_ok-reader.ensures.outcome c.in_ok-reader.ensures.sound
+    at_start c.args.bytes.now c.in_ok-reader.reader c.in_ok-reader.ensures.start
 
 pub returns : goal.returns
 returns g c =
     record {
       outcome = (
-        accepted c.args.bytes.now c.in_ok-reader.reader c.in_ok-reader.ensures.outcome _ _ (sym c.places.ensures.value ∙ c.if-places.false ∙ c.places-2.ensures.value) (omega (arith, c.if-log-calls.false, c.calls.ensures.value)),
-        subst (λ (bs : List ℕ). Replayed g.L.Lock.form c.args.lock.now c.make_calls.new.lock bs c.args.log.now c.make_calls.new.log c.make_calls.result) (bytes_same c.args.bytes.now c.in_ok-reader.reader c.in_ok-reader.ensures.outcome) c.make_calls.ensures,
+        accepted c.args.bytes.now c.in_ok-reader.reader c.in_ok-reader.ensures.start _ _ (sym c.places.ensures.value ∙ c.if-places.false ∙ c.places-2.ensures.value) (omega (arith, c.if-log-calls.false, c.calls.ensures.value)),
+        subst (λ (bs : List ℕ). Replayed g.L.Lock.form c.args.lock.now c.make_calls.new.lock bs c.args.log.now c.make_calls.new.log c.make_calls.result) (bytes_same c.args.bytes.now c.in_ok-reader.reader c.in_ok-reader.ensures.start) c.make_calls.ensures,
       );
       promises = promises g.met.L.Lock.keeps;
     }
