@@ -1,5 +1,6 @@
-use Rattle.std.proofs.Common.{◌<◌, length, sym, arith, rules}
-use Rattle.std.proofs.lemmas.Option.{slice_get-get_or, get_or_from_slice_get}
+use Rattle.std.proofs.Common.{◌<◌, length, arith, rules}
+use Rattle.std.proofs.lemmas.List.{take_more}
+use Rattle.std.proofs.lemmas.Option.{slice_get-get_or}
 use Rattle.program.specs.Lines.{number_text}
 use Rattle.program.proofs.Joining.{piece_more}
 use Rattle.program.proofs.text.RegistersDisplay.fmt.Goals as goal
@@ -11,6 +12,8 @@ loop-index-preserved g c p =
     let index = c.loop-index.index in
     let within : index < length registers = omega (arith, c.register_count-index-end.ensures.value) in
     elim c.match-register.branch [
-      in-Some+in_ok-write w ↦ piece_more _ number_text registers index w.in-Some.value _ _ _ within (get_or_from_slice_get registers index w.in-Some.value w.in-Some.value (sym w.in-Some.ensures)) (c.loop-index.invariant p) (search rules)
-    | in_default w ↦ cc (slice_get-get_or registers index 0 within, w.in_default.ensures)
+      | in-Some+in_ok-write w ↦
+          let value = w.in-Some.value in
+          piece_more _ number_text _ _ value _ _ _ (cc (take_more registers index value within, slice_get-get_or registers index value within, w.in-Some.ensures)) (c.loop-index.invariant p) (search rules)
+      | in_default w ↦ cc (slice_get-get_or registers index 0 within, w.in_default.ensures)
     ]
