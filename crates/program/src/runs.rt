@@ -1,4 +1,4 @@
-ghost use Rattle.std.specs.Prelude.{◌≡◌, length};
+ghost use Rattle.std.specs.Prelude.{◌≡◌, length, IfOk, vec_len};
 ghost use Rattle.program.specs.Runs.{Played, pile_of, pile_number, OnPile, handed_on, Runs};
 
 use super::faults::{ProgramFault, RunError};
@@ -7,7 +7,7 @@ use leaf::Peterson;
 use lock::Lock;
 use replay::{Entry, replay};
 use shapes::{pile_four, pile_six};
-use std::alloc::Global;
+use std::alloc::{AllocError, Global};
 
 // One byte more than the longest record has, so that a longer one is seen to be too long.
 const RECORD_LIMIT: usize = 40_017;
@@ -76,6 +76,13 @@ fn handed_on(bytes: &[u8]) -> &[u8]
     &bytes[..RECORD_LIMIT.min(bytes.len())]
 }
 
+// A log with its slots unused.
+fn empty_log(heap: Global) -> Result<Vec<Entry>, AllocError>
+    ensures { IfOk result (λ log. vec_len log ≡ 20000) }
+{
+    vec![in heap; Entry { call: 0, place: 0 }; SLOTS]
+}
+
 /// Runs an input: a byte with the number of a pile, and then a record, of which at most 40,017
 /// bytes are handed on. Gives the lines of the replay.
 ///
@@ -86,6 +93,6 @@ pub fn run(heap: Global, input: &[u8]) -> Result<String, RunError>
 {
     let (number, record) = input.split_first().ok_or(ProgramFault::NoPile)?;
     let pile = PileName::try_from(*number)?;
-    let mut log = vec![in heap; Entry { call: 0, place: 0 }; SLOTS]?;
+    let mut log = empty_log(heap)?;
     run_pile(heap, pile, handed_on(record), log.as_mut_slice())
 }
