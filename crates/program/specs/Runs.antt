@@ -47,17 +47,11 @@ abbrev pub pile_of : ℕ → Result PileName ProgramFault
 pile_of k =
     cond (k == 1) (Ok OnePeterson) (cond (k == 4) (Ok EightBoxes) (cond (k == 6) (Ok ByeAndPeterson) (Err NoPile)))
 
--- the number that a pile is printed with
-abbrev pub pile_number : PileName → ℕ
-pile_number OnePeterson = 1
-pile_number EightBoxes = 4
-pile_number ByeAndPeterson = 6
-
 -- the bytes of an input that are handed on as a record: one more than a record can have
 abbrev pub handed_on : List ℕ → List ℕ
 handed_on bs = take 40017 bs
 
--- what becomes of a record on a pile
+-- what becomes of a record on a pile, which is printed with its number
 abbrev pub OnPile : PileName → List ℕ → ℕ → Returned → Type 0
 OnPile OnePeterson bs slots r = PlayedOn peterson_form peterson_made 1 bs slots r
 OnPile EightBoxes bs slots r = PlayedOn eight_form eight_made 4 bs slots r

@@ -1,5 +1,5 @@
 ghost use Rattle.std.specs.Prelude.{◌≡◌, length, IfOk, vec_len};
-ghost use Rattle.program.specs.Runs.{Played, pile_of, pile_number, OnPile, handed_on, Runs};
+ghost use Rattle.program.specs.Runs.{Played, pile_of, OnPile, handed_on, Runs};
 
 use super::faults::{ProgramFault, RunError};
 use super::text::report_lines;
@@ -41,16 +41,16 @@ impl TryFrom<u8> for PileName {
 // Replays a record on the lock of a pile, with this log.
 fn play<L: Lock>(
     heap: Global,
-    pile: PileName,
+    pile: u8,
     lock: &mut L,
     bytes: &[u8],
     log: &mut [Entry],
 ) -> Result<String, RunError>
-    ensures { Played L.meaning L.takes L.made lock.old (pile_number pile) bytes.now (length log.old) result }
+    ensures { Played L.meaning L.takes L.made lock.old pile bytes.now (length log.old) result }
 {
     let summary = replay(lock, bytes, log)?;
     let entries = &log[..summary.counts.enters];
-    Ok(report_lines(heap, pile as u8, lock, entries, summary)?)
+    Ok(report_lines(heap, pile, lock, entries, summary)?)
 }
 
 // Replays a record on a new lock of the pile, with this log.
@@ -62,10 +62,11 @@ fn run_pile(
 ) -> Result<String, RunError>
     ensures { OnPile pile bytes.now (length log.old) result }
 {
+    let number = pile as u8;
     match pile {
-        PileName::OnePeterson => play(heap, pile, &mut Peterson::new(), bytes, log),
-        PileName::EightBoxes => play(heap, pile, &mut pile_four(), bytes, log),
-        PileName::ByeAndPeterson => play(heap, pile, &mut pile_six(), bytes, log),
+        PileName::OnePeterson => play(heap, number, &mut Peterson::new(), bytes, log),
+        PileName::EightBoxes => play(heap, number, &mut pile_four(), bytes, log),
+        PileName::ByeAndPeterson => play(heap, number, &mut pile_six(), bytes, log),
     }
 }
 
