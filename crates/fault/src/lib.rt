@@ -1,11 +1,13 @@
 #![tactic(auto)]
 
-ghost use Rattle.std.specs.Prelude.{◌≡◌, ℕ, Option as Maybe};
+ghost use Rattle.std.specs.Prelude.{◌≡◌, ℕ, Some, Option as Maybe};
 ghost use Rattle.fault.specs.declared.Layer.{Layer as LayerOf};
 ghost use Rattle.fault.specs.Layers.{layer_name};
 
+use std::fmt;
+
 /// The part of the product that found a fault.
-#[derive(Clone, Copy)]
+#[derive(Clone, Copy, Debug, PartialEq, Eq)]
 pub enum Layer {
     Lock,
     Record,
@@ -24,6 +26,14 @@ impl Layer {
             Layer::Replay => "replay",
             Layer::Program => "program",
         }
+    }
+}
+
+impl fmt::Display for Layer {
+    ghost output = { λ layer. Some (layer_name layer) };
+
+    fn fmt<W: fmt::Write>(&self, f: &mut fmt::Formatter<W>) -> fmt::Result {
+        f.write_str(self.name())
     }
 }
 

@@ -1,4 +1,4 @@
-mod Handing
 mod Joining
+mod Reporting
 mod TurnedRound
 mod TwoBoxes

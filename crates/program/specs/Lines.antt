@@ -46,11 +46,6 @@ phases_of m = map m.phase (range_with_len 0 m.places)
 abbrev pub phases_line : List Phase → List ℕ
 phases_line phases = codes "phases " ++ (flat_map phase_letter phases ++ codes "\n")
 
--- what stands for a register or a phase that may be absent
-abbrev pub optional_text : {X : Type 0} → (X → List ℕ) → Option X → List ℕ
-optional_text f (Some x) = f x
-optional_text f None = []
-
 abbrev pub head_line : ℕ → ℕ → ℕ → List ℕ
 head_line pile places calls =
     codes "pile " ++ (decimal pile ++ (codes " places " ++ (decimal places ++ (codes " calls " ++ (decimal calls ++ codes "\n")))))

@@ -1,5 +1,7 @@
 -- What the program makes of an input: a refusal, or the report of a replay. Assumes nothing.
-use Rattle.std.specs.Prelude.{◌≡◌, ℕ, cond, List, [], ◌∷◌, take, Some, None, Ok, Err, string_bytes, Option, ◌==◌}
+use Rattle.std.specs.Prelude.{◌≡◌, ℕ, cond, List, [], ◌∷◌, take, Ok, Err, string_bytes, Result, ◌==◌}
+use Rattle.std.specs.declared.string.String.{String}
+use Rattle.std.specs.declared.alloc.Global.{Global}
 use Rattle.lock.specs.declared.Call.{Call}
 use Rattle.lock.specs.Calls.{Reply}
 use Rattle.lock.specs.Meaning.{Meaning}
@@ -10,12 +12,17 @@ use Rattle.shapes.specs.Shapes.{peterson_form, eight_form, eight_made, three_for
 use Rattle.replay.specs.declared.faults.ReplayFault.{ReplayFault}
 use Rattle.replay.specs.Replays.{replay_test, calls_made, record_calls}
 use Rattle.replay.specs.Reports.{entries, summary_of}
+use Rattle.program.specs.declared.faults.ProgramFault.{ProgramFault}
 use Rattle.program.specs.declared.faults.ProgramFault.TheVariants.{OfReplay, NoPile}
-use Rattle.program.specs.declared.runs.Outcome.{Outcome}
-use Rattle.program.specs.declared.runs.Outcome.TheVariants.{Report, Refused}
+use Rattle.program.specs.declared.faults.RunError.{RunError}
+use Rattle.program.specs.declared.faults.RunError.TheVariants.{Refused, OutOfMemory}
 use Rattle.program.specs.declared.runs.PileName.{PileName}
 use Rattle.program.specs.declared.runs.PileName.TheVariants.{OnePeterson, EightBoxes, ByeAndPeterson}
 use Rattle.program.specs.Lines.{report_text}
+
+-- what a run returns
+abbrev pub Returned : Type 0
+Returned = Result (String Global) RunError
 
 module _ {L : Type 0} (meaning : L → Meaning) (takes : L → Call → Reply → L → Type 0) (made : L → L) where
   -- the text reports a past of the lock s that is made of exactly the record's calls in their order
@@ -26,34 +33,35 @@ module _ {L : Type 0} (meaning : L → Meaning) (takes : L → Call → Reply �
     pub calls : calls_made events ≡ record_calls bs
     pub lines : text ≡ report_text pile (meaning end) (entries events) (summary_of events)
 
-  -- a record on the lock s with so many slots in the log: refused as a replay refuses it, or reported
-  abbrev pub Played : L → ℕ → List ℕ → ℕ → Outcome → Type 0
-  Played s pile bs slots (Refused e) = (f : ReplayFault) × (e ≡ OfReplay f) × (replay_test (meaning s).places slots bs ≡ Err f)
-  Played s pile bs slots (Report text) = (replay_test (meaning s).places slots bs ≡ Ok tt) × Reports s pile bs (string_bytes text)
+  -- a record on the lock s with so many slots in the log: reported, or refused as a replay refuses it
+  abbrev pub Played : L → ℕ → List ℕ → ℕ → Returned → Type 0
+  Played s pile bs slots (Ok text) = (replay_test (meaning s).places slots bs ≡ Ok tt) × Reports s pile bs (string_bytes text)
+  Played s pile bs slots (Err (Refused e)) = (f : ReplayFault) × (e ≡ OfReplay f) × (replay_test (meaning s).places slots bs ≡ Err f)
+  Played s pile bs slots (Err OutOfMemory) = Unit {0}
 
-abbrev pub PlayedOn : {L : Type 0} → Form L → L → ℕ → List ℕ → ℕ → Outcome → Type 0
+abbrev pub PlayedOn : {L : Type 0} → Form L → L → ℕ → List ℕ → ℕ → Returned → Type 0
 PlayedOn f = Played f.meaning f.takes f.made
 
 -- which pile a number names
-abbrev pub pile_of : ℕ → Option PileName
+abbrev pub pile_of : ℕ → Result PileName ProgramFault
 pile_of k =
-    cond (k == 1) (Some OnePeterson) (cond (k == 4) (Some EightBoxes) (cond (k == 6) (Some ByeAndPeterson) None))
+    cond (k == 1) (Ok OnePeterson) (cond (k == 4) (Ok EightBoxes) (cond (k == 6) (Ok ByeAndPeterson) (Err NoPile)))
 
 -- the bytes of an input that are handed on as a record: one more than a record can have
 abbrev pub handed_on : List ℕ → List ℕ
 handed_on bs = take 40017 bs
 
--- what becomes of a record on a pile
-abbrev pub OnPile : PileName → ℕ → List ℕ → ℕ → Outcome → Type 0
-OnPile OnePeterson number bs slots o = PlayedOn peterson_form peterson_made number bs slots o
-OnPile EightBoxes number bs slots o = PlayedOn eight_form eight_made number bs slots o
-OnPile ByeAndPeterson number bs slots o = PlayedOn three_form three_made number bs slots o
+-- what becomes of a record on a pile, which is printed with its number
+abbrev pub OnPile : PileName → List ℕ → ℕ → Returned → Type 0
+OnPile OnePeterson bs slots r = PlayedOn peterson_form peterson_made 1 bs slots r
+OnPile EightBoxes bs slots r = PlayedOn eight_form eight_made 4 bs slots r
+OnPile ByeAndPeterson bs slots r = PlayedOn three_form three_made 6 bs slots r
 
-abbrev pub OnPileOrNone : Option PileName → ℕ → List ℕ → Outcome → Type 0
-OnPileOrNone None number bs o = o ≡ Refused NoPile
-OnPileOrNone (Some pile) number bs o = OnPile pile number bs 20000 o
+abbrev pub OnPileOrNone : Result PileName ProgramFault → List ℕ → Returned → Type 0
+OnPileOrNone (Ok pile) bs r = OnPile pile bs 20000 r
+OnPileOrNone (Err e) bs r = r ≡ Err (Refused e)
 
 -- what the program makes of an input: its first byte names the pile, which is tested first
-abbrev pub Runs : List ℕ → Outcome → Type 0
-Runs [] o = o ≡ Refused NoPile
-Runs (number ∷ bs) o = OnPileOrNone (pile_of number) number (handed_on bs) o
+abbrev pub Runs : List ℕ → Returned → Type 0
+Runs [] r = r ≡ Err (Refused NoPile)
+Runs (number ∷ bs) r = OnPileOrNone (pile_of number) (handed_on bs) r

@@ -1,9 +1,11 @@
 ghost use Rattle.std.specs.Prelude.{◌≡◌};
 ghost use Rattle.program.specs.declared.faults.ProgramFault.TheVariants.{OfReplay};
+ghost use Rattle.program.specs.declared.faults.RunError.TheVariants.{Refused, OutOfMemory};
 ghost use Rattle.program.specs.Faults.{program_number, program_byte, program_layer};
 
 use fault::{Fault, Layer};
 use replay::ReplayFault;
+use std::alloc::AllocError;
 
 /// Why an input is not replayed.
 #[derive(Clone, Copy)]
@@ -48,5 +50,38 @@ impl Fault for ProgramFault {
             ProgramFault::OfReplay(fault) => fault.layer(),
             ProgramFault::NoPile => Layer::Program,
         }
+    }
+}
+
+/// Why an input has no report.
+#[derive(Clone, Copy)]
+pub enum RunError {
+    /// The input is refused.
+    Refused(ProgramFault),
+    /// Memory ran out.
+    OutOfMemory,
+}
+
+impl From<ProgramFault> for RunError {
+    ghost from_gives = { λ fault e. e ≡ Refused fault };
+
+    fn from(fault: ProgramFault) -> RunError {
+        RunError::Refused(fault)
+    }
+}
+
+impl From<ReplayFault> for RunError {
+    ghost from_gives = { λ fault e. e ≡ Refused (OfReplay fault) };
+
+    fn from(fault: ReplayFault) -> RunError {
+        RunError::Refused(ProgramFault::from(fault))
+    }
+}
+
+impl From<AllocError> for RunError {
+    ghost from_gives = { λ _ e. e ≡ OutOfMemory };
+
+    fn from(_: AllocError) -> RunError {
+        RunError::OutOfMemory
     }
 }

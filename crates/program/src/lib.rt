@@ -5,6 +5,6 @@ mod faults;
 mod runs;
 mod text;
 
-pub use faults::ProgramFault;
-pub use runs::{Outcome, run};
+pub use faults::{ProgramFault, RunError};
+pub use runs::run;
 pub use text::{refusal_line, report_lines};

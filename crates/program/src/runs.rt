@@ -1,7 +1,7 @@
-ghost use Rattle.std.specs.Prelude.{◌≡◌, length, IfOk};
+ghost use Rattle.std.specs.Prelude.{◌≡◌, length, IfOk, vec_len};
 ghost use Rattle.program.specs.Runs.{Played, pile_of, OnPile, handed_on, Runs};
 
-use super::faults::ProgramFault;
+use super::faults::{ProgramFault, RunError};
 use super::text::report_lines;
 use leaf::Peterson;
 use lock::Lock;
@@ -15,19 +15,27 @@ const RECORD_LIMIT: usize = 40_017;
 // A slot for each call of the longest record.
 const SLOTS: usize = 20_000;
 
-// The piles that the program offers.
+// The piles that the program offers, by their numbers.
 #[derive(Clone, Copy)]
 enum PileName {
-    OnePeterson,
-    EightBoxes,
-    ByeAndPeterson,
+    OnePeterson = 1,
+    EightBoxes = 4,
+    ByeAndPeterson = 6,
 }
 
-/// What the program makes of an input: the lines of a replay, or the fault.
-#[derive(Drop)]
-pub enum Outcome {
-    Report(String),
-    Refused(ProgramFault),
+impl TryFrom<u8> for PileName {
+    type Error = ProgramFault;
+
+    ghost try_from_gives = { λ number named. named ≡ pile_of number };
+
+    fn try_from(number: u8) -> Result<PileName, ProgramFault> {
+        match number {
+            1 => Ok(PileName::OnePeterson),
+            4 => Ok(PileName::EightBoxes),
+            6 => Ok(PileName::ByeAndPeterson),
+            _ => Err(ProgramFault::NoPile),
+        }
+    }
 }
 
 // Replays a record on the lock of a pile, with this log.
@@ -37,54 +45,28 @@ fn play<L: Lock>(
     lock: &mut L,
     bytes: &[u8],
     log: &mut [Entry],
-) -> Result<Outcome, AllocError>
-    ensures { IfOk result (λ o. Played L.meaning L.takes L.made lock.old pile bytes.now (length log.old) o) }
+) -> Result<String, RunError>
+    ensures { Played L.meaning L.takes L.made lock.old pile bytes.now (length log.old) result }
 {
-    match replay(lock, bytes, log) {
-        Ok(summary) => {
-            let entered = summary.counts.enters;
-            let text = report_lines(heap, pile, lock, &log[0..entered], summary)?;
-            Ok(Outcome::Report(text))
-        }
-        Err(fault) => Ok(Outcome::Refused(ProgramFault::from(fault))),
-    }
-}
-
-// The pile that a number names.
-fn pile_of(number: u8) -> Option<PileName>
-    ensures { result ≡ pile_of number }
-{
-    match number {
-        1 => Some(PileName::OnePeterson),
-        4 => Some(PileName::EightBoxes),
-        6 => Some(PileName::ByeAndPeterson),
-        _ => None,
-    }
+    let summary = replay(lock, bytes, log)?;
+    let entries = &log[..summary.counts.enters];
+    Ok(report_lines(heap, pile, lock, entries, summary)?)
 }
 
 // Replays a record on a new lock of the pile, with this log.
 fn run_pile(
     heap: Global,
     pile: PileName,
-    number: u8,
     bytes: &[u8],
     log: &mut [Entry],
-) -> Result<Outcome, AllocError>
-    ensures { IfOk result (λ o. OnPile pile number bytes.now (length log.old) o) }
+) -> Result<String, RunError>
+    ensures { OnPile pile bytes.now (length log.old) result }
 {
+    let number = pile as u8;
     match pile {
-        PileName::OnePeterson => {
-            let mut lock = Peterson::new();
-            play(heap, number, &mut lock, bytes, log)
-        }
-        PileName::EightBoxes => {
-            let mut lock = pile_four();
-            play(heap, number, &mut lock, bytes, log)
-        }
-        PileName::ByeAndPeterson => {
-            let mut lock = pile_six();
-            play(heap, number, &mut lock, bytes, log)
-        }
+        PileName::OnePeterson => play(heap, number, &mut Peterson::new(), bytes, log),
+        PileName::EightBoxes => play(heap, number, &mut pile_four(), bytes, log),
+        PileName::ByeAndPeterson => play(heap, number, &mut pile_six(), bytes, log),
     }
 }
 
@@ -92,24 +74,26 @@ fn run_pile(
 fn handed_on(bytes: &[u8]) -> &[u8]
     ensures { result.now ≡ handed_on bytes.now }
 {
-    let length = bytes.len().min(RECORD_LIMIT);
-    &bytes[0..length]
+    &bytes[..RECORD_LIMIT.min(bytes.len())]
+}
+
+// A log with its slots unused.
+fn empty_log(heap: Global) -> Result<Vec<Entry>, AllocError>
+    ensures { IfOk result (λ log. vec_len log ≡ 20000) }
+{
+    vec![in heap; Entry { call: 0, place: 0 }; SLOTS]
 }
 
 /// Runs an input: a byte with the number of a pile, and then a record, of which at most 40,017
-/// bytes are handed on.
+/// bytes are handed on. Gives the lines of the replay.
 ///
 /// An input without the number of a pile is refused first; a record as a replay refuses it. Fails
-/// only for want of memory.
-pub fn run(heap: Global, input: &[u8]) -> Result<Outcome, AllocError>
-    ensures { IfOk result (λ o. Runs input.now o) }
+/// besides only for want of memory.
+pub fn run(heap: Global, input: &[u8]) -> Result<String, RunError>
+    ensures { Runs input.now result }
 {
-    let [number, rest @ ..] = input else {
-        return Ok(Outcome::Refused(ProgramFault::NoPile));
-    };
-    let Some(pile) = pile_of(*number) else {
-        return Ok(Outcome::Refused(ProgramFault::NoPile));
-    };
-    let mut log = vec![in heap; Entry { call: 0, place: 0 }; SLOTS]?;
-    run_pile(heap, pile, *number, handed_on(rest), log.as_mut_slice())
+    let (number, record) = input.split_first().ok_or(ProgramFault::NoPile)?;
+    let pile = PileName::try_from(*number)?;
+    let mut log = empty_log(heap)?;
+    run_pile(heap, pile, handed_on(record), log.as_mut_slice())
 }

@@ -1,5 +1,5 @@
 use lock::Refusal;
-use program::{Outcome, refusal_line, run};
+use program::{RunError, refusal_line, run};
 use record::RecordFault;
 use replay::ReplayFault;
 use std::alloc::{AllocError, Global};
@@ -7,9 +7,10 @@ use std::test::Fail;
 
 // All that the program prints for an input.
 fn text_of(heap: Global, input: &[u8]) -> Result<String, AllocError> {
-    match run(heap, input)? {
-        Outcome::Report(lines) => Ok(lines),
-        Outcome::Refused(fault) => refusal_line(heap, &fault),
+    match run(heap, input) {
+        Ok(lines) => Ok(lines),
+        Err(RunError::Refused(fault)) => refusal_line(heap, &fault),
+        Err(RunError::OutOfMemory) => Err(AllocError),
     }
 }
 

@@ -1,5 +1,6 @@
-use Rattle.program.proofs.Handing.{cut_at}
+use Rattle.std.proofs.Common.{rules}
+use Rattle.std.proofs.lemmas.List.{take_min}
 use Rattle.program.proofs.runs.handed_on.Goals as goal
 
 pub returns : goal.returns
-returns c = cut_at c.args.bytes.now 40017 c.min-length.result c.min-length.ensures
+returns c = search (rules, take_min)

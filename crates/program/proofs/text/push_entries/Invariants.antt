@@ -1,8 +1,0 @@
-use Rattle.std.proofs.Common.{◌≡◌, ◌++◌, take, string_bytes}
-use Rattle.std.specs.List.{flat_map}
-use Rattle.program.specs.Lines.{entry_text}
-use Rattle.program.proofs.text.push_entries.Given as goal
-
-abbrev pub invariant-loop-entry : goal.invariant-loop-entry
-invariant-loop-entry l =
-    string_bytes l.text ≡ string_bytes l.initial.text ++ flat_map entry_text (take l.entry-index l.entries)
