@@ -2,15 +2,13 @@
 use Rattle.std.specs.Prelude.{◌≡◌, ℕ, cond, List, [], ◌∷◌, take, Ok, Err, string_bytes, Result, ◌==◌}
 use Rattle.std.specs.declared.string.String.{String}
 use Rattle.std.specs.declared.alloc.Global.{Global}
-use Rattle.lock.specs.declared.Call.{Call}
-use Rattle.lock.specs.Calls.{Reply}
-use Rattle.lock.specs.Meaning.{Meaning}
+use Rattle.lock.specs.Meaning.{Form}
 use Rattle.lock.specs.Pasts.{Event, Past}
-use Rattle.leaf.specs.PetersonLines.{peterson_made}
-use Rattle.pile.specs.Forms.{Form}
-use Rattle.shapes.specs.Shapes.{peterson_form, eight_form, eight_made, three_form, three_made}
+use Rattle.leaf.specs.PetersonLines.{peterson_made, peterson_form}
+use Rattle.shapes.specs.Shapes.{eight_form, eight_made, three_form, three_made}
+use Rattle.record.specs.Layout.{calls_in}
 use Rattle.replay.specs.declared.faults.ReplayFault.{ReplayFault}
-use Rattle.replay.specs.Replays.{replay_test, calls_made, record_calls}
+use Rattle.replay.specs.Replays.{replay_test, calls_made}
 use Rattle.replay.specs.Reports.{entries, summary_of}
 use Rattle.program.specs.declared.faults.ProgramFault.{ProgramFault}
 use Rattle.program.specs.declared.faults.ProgramFault.TheVariants.{OfReplay, NoPile}
@@ -24,23 +22,20 @@ use Rattle.program.specs.Lines.{report_text}
 abbrev pub Returned : Type 0
 Returned = Result (String Global) RunError
 
-module _ {L : Type 0} (meaning : L → Meaning) (takes : L → Call → Reply → L → Type 0) (made : L → L) where
+module _ {L : Type 0} (F : Form L) where
   -- the text reports a past of the lock s that is made of exactly the record's calls in their order
   pub record Reports (s : L) (pile : ℕ) (bs text : List ℕ) : Type 0 where
     pub end : L
     pub events : List Event
-    pub past : Past meaning takes made s events end
-    pub calls : calls_made events ≡ record_calls bs
-    pub lines : text ≡ report_text pile (meaning end) (entries events) (summary_of events)
+    pub past : Past F s events end
+    pub calls : calls_made events ≡ calls_in bs
+    pub lines : text ≡ report_text pile (F.meaning end) (entries events) (summary_of events)
 
   -- a record on the lock s with so many slots in the log: reported, or refused as a replay refuses it
   abbrev pub Played : L → ℕ → List ℕ → ℕ → Returned → Type 0
-  Played s pile bs slots (Ok text) = (replay_test (meaning s).places slots bs ≡ Ok tt) × Reports s pile bs (string_bytes text)
-  Played s pile bs slots (Err (Refused e)) = (f : ReplayFault) × (e ≡ OfReplay f) × (replay_test (meaning s).places slots bs ≡ Err f)
+  Played s pile bs slots (Ok text) = (replay_test (F.meaning s).places slots bs ≡ Ok tt) × Reports s pile bs (string_bytes text)
+  Played s pile bs slots (Err (Refused e)) = (f : ReplayFault) × (e ≡ OfReplay f) × (replay_test (F.meaning s).places slots bs ≡ Err f)
   Played s pile bs slots (Err OutOfMemory) = Unit {0}
-
-abbrev pub PlayedOn : {L : Type 0} → Form L → L → ℕ → List ℕ → ℕ → Returned → Type 0
-PlayedOn f = Played f.meaning f.takes f.made
 
 -- which pile a number names
 abbrev pub pile_of : ℕ → Result PileName ProgramFault
@@ -53,9 +48,9 @@ handed_on bs = take 40017 bs
 
 -- what becomes of a record on a pile, which is printed with its number
 abbrev pub OnPile : PileName → List ℕ → ℕ → Returned → Type 0
-OnPile OnePeterson bs slots r = PlayedOn peterson_form peterson_made 1 bs slots r
-OnPile EightBoxes bs slots r = PlayedOn eight_form eight_made 4 bs slots r
-OnPile ByeAndPeterson bs slots r = PlayedOn three_form three_made 6 bs slots r
+OnPile OnePeterson bs slots r = Played peterson_form peterson_made 1 bs slots r
+OnPile EightBoxes bs slots r = Played eight_form eight_made 4 bs slots r
+OnPile ByeAndPeterson bs slots r = Played three_form three_made 6 bs slots r
 
 abbrev pub OnPileOrNone : Result PileName ProgramFault → List ℕ → Returned → Type 0
 OnPileOrNone (Ok pile) bs r = OnPile pile bs 20000 r

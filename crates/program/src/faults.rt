@@ -8,7 +8,7 @@ use replay::ReplayFault;
 use std::alloc::AllocError;
 
 /// Why an input is not replayed.
-#[derive(Clone, Copy)]
+#[derive(Clone, Copy, Debug, PartialEq, Eq)]
 pub enum ProgramFault {
     /// The fault of the replay, whole.
     OfReplay(ReplayFault),
@@ -54,7 +54,7 @@ impl Fault for ProgramFault {
 }
 
 /// Why an input has no report.
-#[derive(Clone, Copy)]
+#[derive(Clone, Copy, Debug, PartialEq, Eq)]
 pub enum RunError {
     /// The input is refused.
     Refused(ProgramFault),

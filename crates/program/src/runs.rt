@@ -16,7 +16,7 @@ const RECORD_LIMIT: usize = 40_017;
 const SLOTS: usize = 20_000;
 
 // The piles that the program offers, by their numbers.
-#[derive(Clone, Copy)]
+#[derive(Clone, Copy, Debug, PartialEq, Eq)]
 enum PileName {
     OnePeterson = 1,
     EightBoxes = 4,
@@ -46,7 +46,7 @@ fn play<L: Lock>(
     bytes: &[u8],
     log: &mut [Entry],
 ) -> Result<String, RunError>
-    ensures { Played L.meaning L.takes L.made lock.old pile bytes.now (length log.old) result }
+    ensures { Played L.form lock.old pile bytes.now (length log.old) result }
 {
     let summary = replay(lock, bytes, log)?;
     let entries = &log[..summary.counts.enters];

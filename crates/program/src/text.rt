@@ -40,7 +40,7 @@ impl fmt::Display for EntryLines<'_> {
 struct Registers<'a, L>(&'a L);
 
 impl<L: Lock> fmt::Display for Registers<'_, L> {
-    ghost output = { λ registers. Some (flat_map number_text (L.meaning registers.0.now).registers) };
+    ghost output = { λ registers. Some (flat_map number_text (L.form.meaning registers.0.now).registers) };
 
     fn fmt<W: fmt::Write>(&self, f: &mut fmt::Formatter<W>) -> fmt::Result {
         for index in 0..self.0.register_count() {
@@ -74,7 +74,7 @@ impl fmt::Display for Letter {
 struct Phases<'a, L>(&'a L);
 
 impl<L: Lock> fmt::Display for Phases<'_, L> {
-    ghost output = { λ phases. Some (flat_map phase_letter (phases_of (L.meaning phases.0.now))) };
+    ghost output = { λ phases. Some (flat_map phase_letter (phases_of (L.form.meaning phases.0.now))) };
 
     fn fmt<W: fmt::Write>(&self, f: &mut fmt::Formatter<W>) -> fmt::Result {
         for place in 0..self.0.places() {
@@ -95,7 +95,7 @@ pub fn report_lines<L: Lock>(
     entries: &[Entry],
     summary: Summary,
 ) -> Result<String, AllocError>
-    ensures { IfOk result (λ t. string_bytes t ≡ report_text pile (L.meaning lock.now) entries.now summary) }
+    ensures { IfOk result (λ t. string_bytes t ≡ report_text pile (L.form.meaning lock.now) entries.now summary) }
 {
     let places = lock.places();
     let calls = summary.calls;

@@ -6,7 +6,7 @@ use fault::{Fault, Layer};
 use record::RecordFault;
 
 /// Why a record is not replayed.
-#[derive(Clone, Copy)]
+#[derive(Clone, Copy, Debug, PartialEq, Eq)]
 pub enum ReplayFault {
     /// The record's own fault, whole.
     OfRecord(RecordFault),

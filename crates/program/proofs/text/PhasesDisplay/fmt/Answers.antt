@@ -8,7 +8,7 @@ use Rattle.program.proofs.text.PhasesDisplay.fmt.Goals.{in-Some+in_ok-write, in_
 
 pub loop-place-preserved : goal.loop-place-preserved
 loop-place-preserved g c p =
-    let m = g.L.Lock.meaning c.args.self.now.0.now in
+    let m = g.L.Lock.form.meaning c.args.self.now.0.now in
     let place = c.loop-place.place in
     let below : place < m.places = omega (arith, c.places-place-end.ensures.value) in
     let there = lt-ltb place m.places below in

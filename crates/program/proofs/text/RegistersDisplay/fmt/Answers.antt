@@ -8,7 +8,7 @@ use Rattle.program.proofs.text.RegistersDisplay.fmt.Goals.{in-Some+in_ok-write, 
 
 pub loop-index-preserved : goal.loop-index-preserved
 loop-index-preserved g c p =
-    let registers = (g.L.Lock.meaning c.args.self.now.0.now).registers in
+    let registers = (g.L.Lock.form.meaning c.args.self.now.0.now).registers in
     let index = c.loop-index.index in
     let within : index < length registers = omega (arith, c.register_count-index-end.ensures.value) in
     elim c.match-register.branch [

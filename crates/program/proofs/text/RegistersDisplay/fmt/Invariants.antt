@@ -6,5 +6,5 @@ use Rattle.program.proofs.text.RegistersDisplay.fmt.Given as goal
 
 abbrev pub invariant-loop-index : goal.invariant-loop-index
 invariant-loop-index g l =
-    let registers = (g.L.Lock.meaning l.self.0.now).registers in
+    let registers = (g.L.Lock.form.meaning l.self.0.now).registers in
     IsPlainFormatter l.initial.f → HasWritten g.W.Write.write_str_gives l.initial.f (flat_map number_text (take l.index registers)) l.f
