@@ -16,28 +16,19 @@ fn read_input(rt: &HostRuntime) -> io::Result<Vec<u8>> {
     Ok(input)
 }
 
-// Replays what is on standard input and prints its lines; says whether it was accepted.
-fn replay_input(rt: &HostRuntime) -> anyhow::Result<bool> {
+// Replays what is on standard input, and prints its lines or that of its refusal.
+fn main(rt: HostRuntime) -> anyhow::Result<ExitCode> {
     let heap = rt.alloc();
-    let input = read_input(rt)?;
+    let input = read_input(&rt)?;
     match run(heap, input.as_slice()) {
         Ok(lines) => {
             rt.print(lines)?;
-            Ok(true)
+            Ok(ExitCode::SUCCESS)
         }
         Err(RunError::Refused(fault)) => {
             rt.print(refusal_line(heap, &fault)?)?;
-            Ok(false)
+            Ok(ExitCode::FAILURE)
         }
         Err(RunError::OutOfMemory) => Err(AllocError.into()),
-    }
-}
-
-fn main(rt: HostRuntime) -> anyhow::Result<ExitCode> {
-    if replay_input(&rt)? {
-        Ok(ExitCode::SUCCESS)
-    } else {
-        // The refusal is printed already.
-        Ok(ExitCode::FAILURE)
     }
 }

@@ -1,7 +1,7 @@
 #![tactic(auto)]
 
-ghost use Rattle.std.specs.Prelude.{◌≡◌, ℕ, Some, Option as Maybe};
-ghost use Rattle.fault.specs.declared.Layer.{Layer as LayerOf};
+ghost use Rattle.std.specs.Prelude.{◌≡◌, Some};
+ghost use Rattle.fault.specs.declared.Notice.{Notice as NoticeOf};
 ghost use Rattle.fault.specs.Layers.{layer_name};
 
 use std::fmt;
@@ -37,23 +37,43 @@ impl fmt::Display for Layer {
     }
 }
 
-/// Why a call was refused: a number, the byte that is at fault, and the layer that found it.
+/// What a fault tells.
+#[derive(Clone, Copy, Debug, PartialEq, Eq)]
+pub struct Notice {
+    /// The number of the fault, one for each rule that was broken.
+    pub number: u8,
+    /// The place of the faulty byte, absent where no bytes were handed in.
+    pub byte: Option<usize>,
+    /// The layer that refused.
+    pub layer: Layer,
+}
+
+/// Why a call was refused.
 pub trait Fault {
-    ghost numbered: { Self → ℕ };
+    ghost told: { Self → NoticeOf };
 
-    ghost placed: { Self → Maybe ℕ };
-
-    ghost layered: { Self → LayerOf };
+    /// All that the fault tells.
+    fn notice(&self) -> Notice
+        ensures { result ≡ told self.now };
 
     /// The number of the fault, one for each rule that was broken.
-    fn number(&self) -> u8
-        ensures { result ≡ numbered self.now };
+    final fn number(&self) -> u8
+        ensures { result ≡ (told self.now).number }
+    {
+        self.notice().number
+    }
 
     /// The place of the faulty byte, absent where no bytes were handed in.
-    fn byte(&self) -> Option<usize>
-        ensures { result ≡ placed self.now };
+    final fn byte(&self) -> Option<usize>
+        ensures { result ≡ (told self.now).byte }
+    {
+        self.notice().byte
+    }
 
     /// The layer that refused.
-    fn layer(&self) -> Layer
-        ensures { result ≡ layered self.now };
+    final fn layer(&self) -> Layer
+        ensures { result ≡ (told self.now).layer }
+    {
+        self.notice().layer
+    }
 }

@@ -5,9 +5,9 @@ ghost use Rattle.lock.specs.Calls.{admission, bid_by, step_by, leave_by, taken_o
 ghost use Rattle.lock.specs.Kinds.{kind_numbered, unknown_kind_text};
 ghost use Rattle.lock.specs.Meaning.{Form, Keeps, phase_answer, register_answer};
 ghost use Rattle.lock.specs.Pasts.{Promises};
-ghost use Rattle.lock.specs.Refusals.{refusal_number, refusal_byte, refusal_layer};
+ghost use Rattle.lock.specs.Refusals.{refusal_notice};
 
-use fault::{Fault, Layer};
+use fault::{Fault, Layer, Notice};
 use std::error::Error;
 use std::fmt;
 
@@ -44,26 +44,19 @@ pub enum Refusal {
 }
 
 impl Fault for Refusal {
-    ghost numbered = { refusal_number };
+    ghost told = { refusal_notice };
 
-    ghost placed = { refusal_byte };
-
-    ghost layered = { refusal_layer };
-
-    fn number(&self) -> u8 {
-        match self {
+    fn notice(&self) -> Notice {
+        let number = match self {
             Refusal::NoPlace => 1,
             Refusal::WrongPhase => 2,
             Refusal::BidsSpent => 3,
+        };
+        Notice {
+            number,
+            byte: None,
+            layer: Layer::Lock,
         }
-    }
-
-    fn byte(&self) -> Option<usize> {
-        None
-    }
-
-    fn layer(&self) -> Layer {
-        Layer::Lock
     }
 }
 

@@ -1,7 +1,7 @@
 -- The lines that the program prints. Assumes nothing.
 use Rattle.std.specs.Prelude.{ℕ, List, [], ◌∷◌, ◌++◌, map, Some, None, codes, decimal, Option}
 use Rattle.std.specs.List.{range_with_len, flat_map}
-use Rattle.fault.specs.declared.Layer.{Layer}
+use Rattle.fault.specs.declared.Notice.{Notice}
 use Rattle.fault.specs.Layers.{layer_name}
 use Rattle.lock.specs.declared.Phase.{Phase}
 use Rattle.lock.specs.declared.Phase.TheVariants.{Out, Bidding, Holding, Leaving}
@@ -15,9 +15,9 @@ abbrev pub byte_text : Option ℕ → List ℕ
 byte_text (Some byte) = decimal byte
 byte_text None = codes "none"
 
-abbrev pub refusal_text : ℕ → Option ℕ → Layer → List ℕ
-refusal_text number byte layer =
-    codes "refusal " ++ (decimal number ++ (codes " at " ++ (byte_text byte ++ (codes " " ++ (layer_name layer ++ codes "\n")))))
+abbrev pub refusal_text : Notice → List ℕ
+refusal_text n =
+    codes "refusal " ++ (decimal n.number ++ (codes " at " ++ (byte_text n.byte ++ (codes " " ++ (layer_name n.layer ++ codes "\n")))))
 
 abbrev pub entry_text : Entry → List ℕ
 entry_text e = codes "enters " ++ (decimal e.call ++ (codes " " ++ (decimal e.place ++ codes "\n")))

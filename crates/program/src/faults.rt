@@ -1,9 +1,9 @@
 ghost use Rattle.std.specs.Prelude.{◌≡◌};
 ghost use Rattle.program.specs.declared.faults.ProgramFault.TheVariants.{OfReplay};
 ghost use Rattle.program.specs.declared.faults.RunError.TheVariants.{Refused, OutOfMemory};
-ghost use Rattle.program.specs.Faults.{program_number, program_byte, program_layer};
+ghost use Rattle.program.specs.Faults.{program_notice};
 
-use fault::{Fault, Layer};
+use fault::{Fault, Layer, Notice};
 use replay::ReplayFault;
 use std::alloc::AllocError;
 
@@ -25,30 +25,16 @@ impl From<ReplayFault> for ProgramFault {
 }
 
 impl Fault for ProgramFault {
-    ghost numbered = { program_number };
+    ghost told = { program_notice };
 
-    ghost placed = { program_byte };
-
-    ghost layered = { program_layer };
-
-    fn number(&self) -> u8 {
+    fn notice(&self) -> Notice {
         match self {
-            ProgramFault::OfReplay(fault) => fault.number(),
-            ProgramFault::NoPile => 13,
-        }
-    }
-
-    fn byte(&self) -> Option<usize> {
-        match self {
-            ProgramFault::OfReplay(fault) => fault.byte(),
-            ProgramFault::NoPile => Some(0),
-        }
-    }
-
-    fn layer(&self) -> Layer {
-        match self {
-            ProgramFault::OfReplay(fault) => fault.layer(),
-            ProgramFault::NoPile => Layer::Program,
+            ProgramFault::OfReplay(fault) => fault.notice(),
+            ProgramFault::NoPile => Notice {
+                number: 13,
+                byte: Some(0),
+                layer: Layer::Program,
+            },
         }
     }
 }

@@ -2,7 +2,7 @@ ghost use Rattle.std.specs.Prelude.{◌≡◌, Some, IfOk, string_bytes};
 ghost use Rattle.std.specs.List.{flat_map};
 ghost use Rattle.program.specs.Lines.{refusal_text, entry_text, number_text, phase_letter, phases_of, report_text};
 
-use fault::Fault;
+use fault::{Fault, Notice};
 use lock::{Lock, Phase};
 use replay::{Entry, Summary};
 use std::alloc::{AllocError, Global};
@@ -10,11 +10,14 @@ use std::fmt;
 
 /// The line that a refused input gets. Fails only for want of memory.
 pub fn refusal_line<F: Fault>(heap: Global, fault: &F) -> Result<String, AllocError>
-    ensures { IfOk result (λ t. string_bytes t ≡ refusal_text (F.numbered fault.now) (F.placed fault.now) (F.layered fault.now)) }
+    ensures { IfOk result (λ t. string_bytes t ≡ refusal_text (F.told fault.now)) }
 {
-    let number = fault.number();
-    let layer = fault.layer();
-    match fault.byte() {
+    let Notice {
+        number,
+        byte,
+        layer,
+    } = fault.notice();
+    match byte {
         Some(byte) => format!(in heap; "refusal {number} at {byte} {layer}\n"),
         None => format!(in heap; "refusal {number} at none {layer}\n"),
     }

@@ -1,13 +1,13 @@
 -- What the examples ask of opening a record. Assumes nothing.
 use Rattle.std.specs.Prelude.{ℕ, Some, None, Ok, Err, Option, Result}
 use Rattle.record.specs.declared.faults.RecordFault.{RecordFault}
-use Rattle.record.specs.Faults.{fault_number, fault_byte}
+use Rattle.record.specs.Faults.{fault_notice}
 use Rattle.record.specs.Readers.{Reading}
 
 -- the number and the byte with which a record is refused
 abbrev pub refusal_of : Result Reading RecordFault → Option (ℕ × Option ℕ)
 refusal_of (Ok reader) = None
-refusal_of (Err fault) = Some (fault_number fault, fault_byte fault)
+refusal_of (Err fault) = Some ((fault_notice fault).number, (fault_notice fault).byte)
 
 -- the places and the calls of a record that opens
 abbrev pub counts_of : Result Reading RecordFault → Option (ℕ × ℕ)

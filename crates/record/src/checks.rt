@@ -1,6 +1,7 @@
 ghost use Rattle.std.specs.Prelude.{◌≡◌, ◌+◌, ◌^◌, ◌<◌, length};
 ghost use Rattle.record.specs.Checks.{counts_test, call_test, calls_test};
 
+use super::call::RawCall;
 use super::faults::RecordFault;
 use lock::Kind;
 
@@ -25,12 +26,12 @@ pub(crate) fn check_counts(places: u32, calls: usize) -> Result<(), RecordFault>
 }
 
 // The call whose kind stands at `byte`, and its place behind that.
-pub(crate) fn check_call(places: u32, byte: usize, kind: u8, place: u8) -> Result<(), RecordFault>
+pub(crate) fn check_call(places: u32, byte: usize, call: RawCall) -> Result<(), RecordFault>
     requires { byte + 1 < 2 ^ 64 }
-    ensures { result ≡ call_test places byte kind place }
+    ensures { result ≡ call_test places byte call.kind call.place }
 {
-    Kind::try_from(kind).map_err(|_| RecordFault::CallKind { byte })?;
-    if u32::from(place) >= places {
+    Kind::try_from(call.kind).map_err(|_| RecordFault::CallKind { byte })?;
+    if u32::from(call.place) >= places {
         return Err(RecordFault::CallPlace { byte: byte + 1 });
     }
     Ok(())
@@ -44,7 +45,11 @@ pub(crate) fn check_calls(places: u32, start: usize, calls: &[u8]) -> Result<(),
     // A loop, since by the project's rule a call comes off the front of the rest.
     let mut rest = calls;
     while let [kind, place, behind @ ..] = rest {
-        check_call(places, start + (calls.len() - rest.len()), *kind, *place)?;
+        let call = RawCall {
+            kind: *kind,
+            place: *place,
+        };
+        check_call(places, start + (calls.len() - rest.len()), call)?;
         rest = behind;
     }
     Ok(())

@@ -11,10 +11,8 @@ pub fn fifteen_bytes_are_refused_with_4_at_0(bytes: &[u8; 15]) -> Option<(u8, Op
     ensures value { result ≡ Some (4, Some 0) }
     ensures from_opening { result ≡ refusal_of (opening bytes.now) }
 {
-    match Reader::open(bytes) {
-        Ok(_) => None,
-        Err(fault) => Some((fault.number(), fault.byte())),
-    }
+    let fault = Reader::open(bytes).err()?;
+    Some((fault.number(), fault.byte()))
 }
 
 /// Opens the header 2, 0, 16, 16 with nothing behind it, and asks for its places and calls.
@@ -22,8 +20,6 @@ pub fn header_2_0_16_16_alone_is_accepted() -> Option<(usize, usize)>
     ensures value { result ≡ Some (2, 0) }
     ensures from_opening { result ≡ counts_of (opening (number_bytes 2 ++ (number_bytes 0 ++ (number_bytes 16 ++ number_bytes 16)))) }
 {
-    match Reader::open(&[2, 0, 0, 0, 0, 0, 0, 0, 16, 0, 0, 0, 16, 0, 0, 0]) {
-        Ok(reader) => Some((reader.places(), reader.calls())),
-        Err(_) => None,
-    }
+    let reader = Reader::open(&[2, 0, 0, 0, 0, 0, 0, 0, 16, 0, 0, 0, 16, 0, 0, 0]).ok()?;
+    Some((reader.places(), reader.calls()))
 }

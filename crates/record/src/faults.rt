@@ -1,6 +1,6 @@
-ghost use Rattle.record.specs.Faults.{fault_number, fault_byte, fault_layer};
+ghost use Rattle.record.specs.Faults.{fault_notice};
 
-use fault::{Fault, Layer};
+use fault::{Fault, Layer, Notice};
 
 /// Why a record is not read or written. The two that a call is at fault for carry the byte.
 #[derive(Clone, Copy, Debug, PartialEq, Eq)]
@@ -24,37 +24,23 @@ pub enum RecordFault {
 }
 
 impl Fault for RecordFault {
-    ghost numbered = { fault_number };
+    ghost told = { fault_notice };
 
-    ghost placed = { fault_byte };
-
-    ghost layered = { fault_layer };
-
-    fn number(&self) -> u8 {
-        match self {
-            RecordFault::HeaderCut => 4,
-            RecordFault::PlaceCount => 5,
-            RecordFault::CallCount => 6,
-            RecordFault::CallOffset => 7,
-            RecordFault::WholeLength => 8,
-            RecordFault::CallKind { .. } => 9,
-            RecordFault::CallPlace { .. } => 10,
-            RecordFault::BufferCut => 14,
-        }
-    }
-
-    fn byte(&self) -> Option<usize> {
-        let byte = match self {
-            RecordFault::HeaderCut | RecordFault::PlaceCount | RecordFault::BufferCut => 0,
-            RecordFault::CallCount => 4,
-            RecordFault::CallOffset => 8,
-            RecordFault::WholeLength => 12,
-            RecordFault::CallKind { byte } | RecordFault::CallPlace { byte } => *byte,
+    fn notice(&self) -> Notice {
+        let (number, byte) = match self {
+            RecordFault::HeaderCut => (4, 0),
+            RecordFault::PlaceCount => (5, 0),
+            RecordFault::CallCount => (6, 4),
+            RecordFault::CallOffset => (7, 8),
+            RecordFault::WholeLength => (8, 12),
+            RecordFault::CallKind { byte } => (9, *byte),
+            RecordFault::CallPlace { byte } => (10, *byte),
+            RecordFault::BufferCut => (14, 0),
         };
-        Some(byte)
-    }
-
-    fn layer(&self) -> Layer {
-        Layer::Record
+        Notice {
+            number,
+            byte: Some(byte),
+            layer: Layer::Record,
+        }
     }
 }

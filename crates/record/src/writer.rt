@@ -14,7 +14,7 @@ fn check_raw_calls(places: u32, calls: &[RawCall]) -> Result<(), RecordFault>
     ensures { result ≡ calls_test places 16 (call_bytes calls.now) }
 {
     for (index, call) in calls.iter().enumerate() {
-        check_call(places, HEADER_LENGTH + 2 * index, call.kind, call.place)?;
+        check_call(places, HEADER_LENGTH + 2 * index, *call)?;
     }
     Ok(())
 }

@@ -1,8 +1,8 @@
 ghost use Rattle.std.specs.Prelude.{◌≡◌};
 ghost use Rattle.replay.specs.declared.faults.ReplayFault.TheVariants.{OfRecord};
-ghost use Rattle.replay.specs.Faults.{replay_number, replay_byte, replay_layer};
+ghost use Rattle.replay.specs.Faults.{replay_notice};
 
-use fault::{Fault, Layer};
+use fault::{Fault, Layer, Notice};
 use record::RecordFault;
 
 /// Why a record is not replayed.
@@ -25,31 +25,18 @@ impl From<RecordFault> for ReplayFault {
 }
 
 impl Fault for ReplayFault {
-    ghost numbered = { replay_number };
+    ghost told = { replay_notice };
 
-    ghost placed = { replay_byte };
-
-    ghost layered = { replay_layer };
-
-    fn number(&self) -> u8 {
-        match self {
-            ReplayFault::OfRecord(fault) => fault.number(),
+    fn notice(&self) -> Notice {
+        let number = match self {
+            ReplayFault::OfRecord(fault) => return fault.notice(),
             ReplayFault::OtherPlaces => 11,
             ReplayFault::ShortLog => 12,
-        }
-    }
-
-    fn byte(&self) -> Option<usize> {
-        match self {
-            ReplayFault::OfRecord(fault) => fault.byte(),
-            ReplayFault::OtherPlaces | ReplayFault::ShortLog => Some(0),
-        }
-    }
-
-    fn layer(&self) -> Layer {
-        match self {
-            ReplayFault::OfRecord(fault) => fault.layer(),
-            ReplayFault::OtherPlaces | ReplayFault::ShortLog => Layer::Replay,
+        };
+        Notice {
+            number,
+            byte: Some(0),
+            layer: Layer::Replay,
         }
     }
 }
