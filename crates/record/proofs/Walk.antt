@@ -1,8 +1,8 @@
 -- One call of the reader, from where its cursor stands. Assumes nothing.
-use Rattle.std.proofs.Common.{◌≡◌, ℕ, ◌+◌, ◌-◌, ◌*◌, ◌<◌, ◌≤◌, List, [], ◌∷◌, length, get_or, take, drop, Some, None, Ok, sym, refl, ap, ◌∙◌, arith, length-drop}
+use Rattle.std.proofs.Common.{◌≡◌, ℕ, ◌+◌, ◌*◌, ◌<◌, ◌≤◌, List, [], ◌∷◌, length, get_or, drop, Some, None, Ok, sym, refl, ap, ◌∙◌, arith, length-drop}
 use Rattle.std.specs.List.{slice_get}
 use Rattle.std.specs.Result.{result_unwrap_or}
-use Rattle.std.proofs.lemmas.List.{drop-drop, take_rest}
+use Rattle.std.proofs.lemmas.List.{drop-drop}
 use Rattle.std.proofs.lemmas.Bool.{lt-ltb, le-ltb}
 use Rattle.lock.specs.declared.Kind.{Kind}
 use Rattle.lock.specs.declared.Kind.TheVariants.{Leave}
@@ -28,9 +28,8 @@ ended S h =
     }
 
 -- else the call of the next two bytes
-pub came : (S : Reading) (front : List ℕ) (k : Kind) → front ≡ drop S.cursor S.bytes → 2 ≤ length front → kind_numbered (get_or front 0 0) ≡ Ok k → NextCall S (Some (record { kind = k; place = get_or front 1 0 })) (at_byte (length S.bytes - length (take (length front - 2) (drop 2 front))) S)
-came S front k e two kind =
-    let place : length S.bytes - length (take (length front - 2) (drop 2 front)) ≡ S.cursor + 2 = rw (take_rest front 2, length-drop 2 front, e, length-drop S.cursor S.bytes) (omega (arith, ap length e, length-drop S.cursor S.bytes)) in
+pub came : (S : Reading) (front : List ℕ) (k : Kind) (at : ℕ) → front ≡ drop S.cursor S.bytes → 2 ≤ length front → kind_numbered (get_or front 0 0) ≡ Ok k → at ≡ S.cursor + 2 → NextCall S (Some (record { kind = k; place = get_or front 1 0 })) (at_byte at S)
+came S front k at e two kind place =
     let within : S.cursor + 2 ≤ length S.bytes = omega (arith, ap length e ∙ length-drop S.cursor S.bytes) in
     let calls : calls_left S ≡ record { kind = k; place = get_or front 1 0 } ∷ calls_of (drop 2 front) = rw (← ap (λ r. result_unwrap_or r Leave) kind, ← e) (calls_of_more front two) in
     record {

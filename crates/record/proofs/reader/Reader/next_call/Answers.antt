@@ -1,5 +1,5 @@
 -- The bytes behind the cursor are the two of the next call and the rest, or fewer than two. Assumes nothing.
-use Rattle.std.proofs.Common.{sym, ◌∙◌, arith, length-drop}
+use Rattle.std.proofs.Common.{drop, sym, ◌∙◌, arith, length-drop}
 use Rattle.std.proofs.lemmas.List.{take_rest}
 use Rattle.record.specs.Readers.{reading}
 use Rattle.record.proofs.Passing.{kind_known}
@@ -20,4 +20,7 @@ unwrap-requires c =
 pub returns : goal.returns
 returns c =
     let self = c.args.self.now in
-    came (reading self) _ _ (take_rest self.bytes.now self.cursor) c.in-len2-up.len_at_least (sym c.try_from.ensures ∙ c.unwrap.ensures)
+    let front = take_rest self.bytes.now self.cursor in
+    let rest = take_rest (drop self.cursor self.bytes.now) 2 in
+    let two = rw (front, length-drop) at c.in-len2-up.len_at_least in
+    came (reading self) _ _ _ front c.in-len2-up.len_at_least (sym c.try_from.ensures ∙ c.unwrap.ensures) (rw (front, rest, length-drop, length-drop) (omega arith))
