@@ -23,6 +23,7 @@ impl Bye {
     }
 }
 
+// By the project's rule each lock has an implementation of its own, however like another's it is.
 impl Lock for Bye {
     ghost form = { bye_form };
 

@@ -1,6 +1,9 @@
 ghost use Rattle.std.specs.Prelude.{◌≡◌, [], ◌∷◌, Some};
 ghost use Rattle.lock.specs.declared.Answer.TheVariants.{Waits, Moves, Enters};
-ghost use Rattle.leaf.specs.PetersonLines.{peterson_meaning};
+ghost use Rattle.lock.specs.Calls.{step_by};
+ghost use Rattle.lock.specs.Meaning.{refusal_of};
+ghost use Rattle.lock.specs.Refusals.{refused_with};
+ghost use Rattle.leaf.specs.PetersonLines.{peterson_meaning, peterson_made};
 
 use super::peterson::Peterson;
 use fault::Fault;
@@ -33,7 +36,8 @@ pub fn lone_peterson_box_moves_moves_waits_enters() -> ([Reply; 5], Peterson)
 
 /// A step of box 0 of a new Peterson lock, which is out.
 pub fn step_of_an_out_box_is_refused_with_2() -> Option<u8>
-    ensures { result ≡ Some 2 }
+    ensures number { result ≡ Some 2 }
+    ensures by_the_rules { result ≡ refused_with (refusal_of (peterson_meaning peterson_made) (step_by 0)) }
 {
     let mut lock = Peterson::new();
     let refusal = lock.step(0).err()?;
@@ -43,6 +47,7 @@ pub fn step_of_an_out_box_is_refused_with_2() -> Option<u8>
 /// A call at place 2 of any Peterson lock.
 pub fn place_2_of_a_peterson_lock_is_refused_with_1(lock: &mut Peterson, kind: Kind) -> Option<u8>
     ensures number { result ≡ Some 1 }
+    ensures by_the_rules { result ≡ refused_with (refusal_of (peterson_meaning lock.old) (record { kind = kind; place = 2 })) }
     ensures same { lock.new ≡ lock.old }
 {
     let refusal = call_on(lock, Call { kind, place: 2 }).err()?;

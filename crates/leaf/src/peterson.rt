@@ -63,6 +63,7 @@ impl Peterson {
     }
 }
 
+// By the project's rule each lock has an implementation of its own, however like another's it is.
 impl Lock for Peterson {
     ghost form = { peterson_form };
 

@@ -196,6 +196,7 @@ pub fn call_on<L: Lock>(lock: &mut L, call: Call) -> Reply
     ensures outcome { L.form.takes lock.old call result lock.new }
     ensures promises { Promises L.form }
 {
+    // By a match, since the kind is data of a record, and each kind has a method of its own.
     match call.kind {
         Kind::Bid => lock.bid(call.place).map(|()| None),
         Kind::Step => lock.step(call.place).map(Some),

@@ -70,6 +70,9 @@ impl<T: Lock, L: Lock, R: Lock> Pile<T, L, R> {
         None
     }
 
+    // Of the four functions that follow each picks a side for another method: the sides are of two
+    // types, and one function for a call told as data would not say that a step answers.
+
     // The phase of a place at its side.
     fn side_phase(&self, side: Side, place: usize) -> Option<Phase>
         ensures { result ≡ phase_answer (side_of side (meanings T.form L.form R.form self.now)) place }

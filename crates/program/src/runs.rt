@@ -41,6 +41,7 @@ impl TryFrom<u8> for PileName {
 // Replays a record on the lock of a pile, with this log.
 fn play<L: Lock>(
     heap: Global,
+    // The number to print, and no name, so that any lock can be played.
     pile: u8,
     lock: &mut L,
     bytes: &[u8],
@@ -63,6 +64,7 @@ fn run_pile(
     ensures { OnPile pile bytes.now (length log.old) result }
 {
     let number = pile as u8;
+    // By a match, since each pile is a lock of another type, which the contract names.
     match pile {
         PileName::OnePeterson => play(heap, number, &mut Peterson::new(), bytes, log),
         PileName::EightBoxes => play(heap, number, &mut pile_four(), bytes, log),

@@ -46,6 +46,7 @@ impl<L: Lock> fmt::Display for Registers<'_, L> {
     ghost output = { λ registers. Some (flat_map number_text (L.form.meaning registers.0.now).registers) };
 
     fn fmt<W: fmt::Write>(&self, f: &mut fmt::Formatter<W>) -> fmt::Result {
+        // By their numbers, since a lock is asked for one register at a time.
         for index in 0..self.0.register_count() {
             if let Some(value) = self.0.register(index) {
                 write!(f, " {value}")?;
@@ -80,6 +81,7 @@ impl<L: Lock> fmt::Display for Phases<'_, L> {
     ghost output = { λ phases. Some (flat_map phase_letter (phases_of (L.form.meaning phases.0.now))) };
 
     fn fmt<W: fmt::Write>(&self, f: &mut fmt::Formatter<W>) -> fmt::Result {
+        // Place by place, since a lock is asked for one phase at a time.
         for place in 0..self.0.places() {
             if let Some(phase) = self.0.phase(place) {
                 write!(f, "{}", Letter(phase))?;

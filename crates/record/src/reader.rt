@@ -20,7 +20,8 @@ struct Header {
 pub struct Reader<'a> {
     bytes: &'a [u8],
     header: Header,
-    // The byte of the next call, or the end.
+    // The byte of the next call, or the end: by the project's rule a reader keeps the record's bytes
+    // and how far it has come.
     cursor: usize,
     // Every test passed, and what follows from that.
     pub ghost passed: { reading_test bytes.now ≡ Ok tt },

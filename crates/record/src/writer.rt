@@ -36,6 +36,7 @@ fn put_calls(buffer: &mut [u8], calls: &[RawCall])
     }
 }
 
+// The buffer is lent and the length returned beside it, since by the project's rule writing has no heap.
 /// Writes a record at the buffer's start and returns its length; bytes behind it stay, and all stay where a test refuses.
 pub fn write_record(places: u32, calls: &[RawCall], buffer: &mut [u8]) -> Result<usize, RecordFault>
     ensures outcome { result ≡ writing places calls.now buffer.old }

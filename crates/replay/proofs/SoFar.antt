@@ -94,15 +94,18 @@ module _ {L : Type 0} (F : Form L) where
     pub log_is : log ≡ logged events log₀
 
   module _ (s : L) (calls : List Call) (log₀ : List Entry) (listed : Listed calls (length log₀)) where
-    module _ (t : L) (c : Call) (left : List Call) (log : List Entry) (tally : Tally) (so_far : SoFar s t calls (c ∷ left) log₀ log tally) where
+    module _ (t : L) (c : Call) (now left : List Call) (next-call : now ≡ c ∷ left) (log : List Entry) (tally : Tally) (so_far : SoFar s t calls now log₀ log tally) where
+      order : calls_made so_far.events ++ (c ∷ left) ≡ calls
+      order = ap (λ (l : List Call). calls_made so_far.events ++ l) (sym next-call) ∙ so_far.order
+
       not_all : length so_far.events < length calls
-      not_all = omega (arith, ap length so_far.order, length-append (calls_made so_far.events) (c ∷ left), length-calls_made so_far.events)
+      not_all = omega (arith, ap length order, length-append (calls_made so_far.events) (c ∷ left), length-calls_made so_far.events)
 
       few : length so_far.events < 1000000
       few = omega (arith, not_all, listed.few)
 
       pub call_placed : c.place < 64
-      call_placed = placed_within (calls_made so_far.events) c left (subst (AllByRecursion (λ x. x.place < 64)) (sym so_far.order) listed.placed)
+      call_placed = placed_within (calls_made so_far.events) c left (subst (AllByRecursion (λ x. x.place < 64)) (sym order) listed.placed)
 
       enters_number : tally.counts.enters ≡ length (entries so_far.events)
       enters_number = ap (λ (x : Tally). x.counts.enters) so_far.tally_is ∙ sym (entries_counted so_far.events)
@@ -128,7 +131,7 @@ module _ {L : Type 0} (F : Form L) where
           record {
             events = e ∷ so_far.events;
             run = (t, so_far.run, took);
-            order = append_assoc (calls_made so_far.events) (c ∷ []) left ∙ so_far.order;
+            order = append_assoc (calls_made so_far.events) (c ∷ []) left ∙ order;
             placed = (call_placed, so_far.placed);
             tally_is = counted ∙ ap (λ (x : Tally). noted x c reply) so_far.tally_is ∙ tally_more e so_far.events;
             log_is = logs ∙ ap (λ (x : List Entry). log_after x tally.counts.enters tally.calls c reply) so_far.log_is
@@ -137,10 +140,10 @@ module _ {L : Type 0} (F : Form L) where
           }
 
     -- the calls of a whole record make the past that is reported
-    pub all_made : (t : L) (log : List Entry) (tally : Tally) → SoFar s t calls [] log₀ log tally → (lock : L) → s ≡ F.made lock → Economy F → (bs : List ℕ) → calls ≡ calls_in bs → (summary : Summary) → summary ≡ summarized tally → Replayed F lock t bs log₀ log summary
-    all_made t log tally so_far lock is economy bs all summary sums =
+    pub all_made : (t : L) (now : List Call) (log : List Entry) (tally : Tally) → now ≡ [] → SoFar s t calls now log₀ log tally → (lock : L) → s ≡ F.made lock → Economy F → (bs : List ℕ) → calls ≡ calls_in bs → (summary : Summary) → summary ≡ summarized tally → Replayed F lock t bs log₀ log summary
+    all_made t now log tally none so_far lock is economy bs all summary sums =
         let past : Past F lock so_far.events t = subst (λ (x : L). Run F x so_far.events t) is so_far.run in
-        let made : calls_made so_far.events ≡ calls = sym (append-nil (calls_made so_far.events)) ∙ so_far.order in
+        let made : calls_made so_far.events ≡ calls = sym (append-nil (calls_made so_far.events)) ∙ ap (λ (l : List Call). calls_made so_far.events ++ l) (sym none) ∙ so_far.order in
         let report : summary ≡ summary_of so_far.events = sums ∙ ap summarized so_far.tally_is ∙ (λ i. record { calls = length so_far.events; counts = counts_of so_far.events; gap = gap so_far.events; passed = passed_is so_far.events so_far.placed i }) in
         let enters : summary.counts.enters ≡ length (entries so_far.events) = ap (λ (x : Summary). x.counts.enters) report ∙ sym (entries_counted so_far.events) in
         let gap_is : summary.gap ≡ gap so_far.events = ap (λ (x : Summary). x.gap) report in

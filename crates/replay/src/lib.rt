@@ -25,6 +25,7 @@ fn make_call<L: Lock>(lock: &mut L, call: Call, tally: &mut Tally, log: &mut [En
     ensures entry { log.new ≡ log_after log.old tally.old.counts.enters tally.old.calls call result }
 {
     let reply = call_on(lock, call);
+    // The log is lent and its entries are counted beside it, since a replay has no heap.
     if let Ok(Some(Answer::Enters)) = reply {
         log[tally.entries()] = Entry {
             call: tally.calls(),

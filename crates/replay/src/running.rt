@@ -57,7 +57,8 @@ impl Stretch {
 pub(crate) struct Waiting {
     // The entries so far.
     entries: usize,
-    // For each place that waits: how many entries there were before its bid.
+    // For each place that waits: how many entries there were before its bid. A fixed table, since a
+    // replay has no heap.
     before: [Option<usize>; 64],
     // The most entries that a place waited through before its own.
     most: usize,
@@ -129,6 +130,8 @@ pub(crate) struct Tally {
 }
 
 impl Tally {
+    // That there is room is asked of each call and is not in the types, since room for one call may
+    // be gone after it.
     pub(crate) fn note(&mut self, call: Call, reply: Reply)
         requires { Ready self.old call }
         ensures { self.new ≡ noted self.old call reply }

@@ -44,6 +44,8 @@ pub fn lone_box_of_a_pile_comes_and_goes() -> [Reply; 9]
     ]
 }
 
+// A function for each pile, since each contract states the pile's own number.
+
 /// How many calls on pile 4 neither wait nor enter between two entries, at most.
 pub fn pile_four_has_the_call_limit_168(_pile: &PileFour) -> u32
     ensures limit { result ≡ (eight_means _pile.now).call_limit }
