@@ -26,7 +26,7 @@ fn make_call<L: Lock>(lock: &mut L, call: Call, tally: &mut Tally, log: &mut [En
 {
     let reply = call_on(lock, call);
     // The log is lent and its entries are counted beside it, since a replay has no heap.
-    if let Ok(Some(Answer::Enters)) = reply {
+    if reply == Ok(Some(Answer::Enters)) {
         log[tally.entries()] = Entry {
             call: tally.calls(),
             place: call.place,
