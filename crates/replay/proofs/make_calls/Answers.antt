@@ -1,5 +1,5 @@
 -- The calls made are a past of the lock, and all that is kept from call to call is of that past.
-use Rattle.std.proofs.Common.{length, arith}
+use Rattle.std.proofs.Common.{length, arith, rules}
 use Rattle.lock.proofs.Pasts.{promises}
 use Rattle.replay.proofs.SoFar.{listed, all_to_come, ready, enters_within, one_more, all_made}
 use Rattle.replay.proofs.make_calls.Goals as goal
@@ -24,4 +24,4 @@ loop-call-preserved g c =
 pub returns : goal.returns
 returns g c =
     all_made g.L.Lock.form _ _ _ (listed c.args.reader (length c.args.log.now) c.requires.start c.requires.slots) _ _ _ _ c.in-None.ensures.steps.0 c.loop-call.invariant
-    c.args.lock.now c.put_back.ensures (promises g.met.L.Lock.keeps).economy c.args.reader.bytes.now (all_to_come c.args.reader c.requires.start) c.summary.result c.summary.ensures
+    c.args.lock.now (search rules) (promises g.met.L.Lock.keeps).economy c.args.reader.bytes.now (all_to_come c.args.reader c.requires.start) c.summary.result c.summary.ensures
