@@ -16,6 +16,7 @@ pub enum Layer {
 }
 
 impl Layer {
+    // Public, and the text that `Display` writes.
     /// The layer's name as it is printed.
     pub fn name(self) -> &'static str
         ensures { result.now ≡ layer_name self }

@@ -43,10 +43,7 @@ impl Lock for Bye {
     }
 
     fn step(&mut self, place: usize) -> Result<Answer, Refusal> {
-        if place >= 1 {
-            return Err(Refusal::NoPlace);
-        }
-        match self.phase {
+        match self.phase(place).ok_or(Refusal::NoPlace)? {
             Phase::Bidding => {
                 self.phase = Phase::Holding;
                 Ok(Answer::Enters)

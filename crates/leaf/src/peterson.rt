@@ -30,6 +30,7 @@ pub struct BoxRecord {
 }
 
 impl BoxRecord {
+    // By a match, which shows the lines of each phase.
     fn phase(self) -> Phase
         ensures { result ≡ line_phase self.line }
     {
@@ -83,16 +84,15 @@ impl Lock for Peterson {
     }
 
     fn step(&mut self, place: usize) -> Result<Answer, Refusal> {
-        if place >= PLACES {
-            return Err(Refusal::NoPlace);
-        }
-        let record = &mut self.boxes[place];
-        let read = match record.line {
+        let line = self.boxes.get(place).ok_or(Refusal::NoPlace)?.line;
+        // 0 for a line that reads none: by the project's rule a step matches the line together with
+        // the value read.
+        let read = match line {
             Line::Three => self.registers[P],
             Line::Four => self.registers[1 - place],
             _ => 0,
         };
-        let (next, answer) = match (record.line, read) {
+        let (next, answer) = match (line, read) {
             (Line::One, _) => {
                 self.registers[place] = 1;
                 (Line::Two, Answer::Moves)
@@ -111,7 +111,7 @@ impl Lock for Peterson {
             }
             (Line::Out | Line::Holding, _) => return Err(Refusal::WrongPhase),
         };
-        record.line = next;
+        self.boxes[place].line = next;
         Ok(answer)
     }
 

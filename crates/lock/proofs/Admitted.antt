@@ -1,5 +1,5 @@
 -- What a call that is not refused has passed. Assumes nothing.
-use Rattle.std.proofs.Common.{◌≡◌, ℕ, ◌<◌, Bool, true, false, cond, leb, Some, None, sym, refl, arith}
+use Rattle.std.proofs.Common.{◌≡◌, ℕ, ◌<◌, Bool, true, false, cond, leb, Some, None, sym, refl}
 use Rattle.std.proofs.lemmas.Bool.{leb-false, true≢false}
 use Rattle.lock.specs.declared.Phase.{Phase}
 use Rattle.lock.specs.declared.Phase.TheVariants.{Out, Bidding, Holding, Leaving}
@@ -15,9 +15,9 @@ pub record Admitted (n : ℕ) (f : Phase) (b : ℕ) (c : Call) : Type 0 where
   pub room : one_too_many c.kind b ≡ false
 
 admitted_by : (t u v : Bool) → cond t (Some NoPlace) (cond u (cond v (Some BidsSpent) None) (Some WrongPhase)) ≡ None → (t ≡ false) × (u ≡ true) × (v ≡ false)
-admitted_by true u v e = absurd (let z : ◌≡◌ {A = ℕ} 0 1 = cc in omega arith)
-admitted_by false false v e = absurd (let z : ◌≡◌ {A = ℕ} 0 1 = cc in omega arith)
-admitted_by false true true e = absurd (let z : ◌≡◌ {A = ℕ} 0 1 = cc in omega arith)
+admitted_by true u v e = cc
+admitted_by false false v e = cc
+admitted_by false true true e = cc
 admitted_by false true false e = (refl, refl, refl)
 
 pub admitted : (n : ℕ) (f : Phase) (b : ℕ) (c : Call) → refusal n f b c ≡ None → Admitted n f b c

@@ -53,13 +53,20 @@ one_too_many Bid b = nat_le 1000000 b
 one_too_many Step b = false
 one_too_many Leave b = false
 
+-- which refusal a call gets for a place that there is, if any: f its phase, b bids taken
+abbrev pub refusal_there : Kind → Phase → ℕ → Option Refusal
+refusal_there k f b = cond (fits k f) (cond (one_too_many k b) (Some BidsSpent) None) (Some WrongPhase)
+
+abbrev pub passed_unless : Option Refusal → Result Unit Refusal
+passed_unless (Some e) = Err e
+passed_unless None = Ok tt
+
 -- what the tests of a call give, in their order: by the phase of its place, absent where there is no
 -- such place, and the bids taken
 abbrev pub admission : Kind → Option Phase → ℕ → Result Unit Refusal
 admission k None b = Err NoPlace
-admission k (Some f) b = cond (fits k f) (cond (one_too_many k b) (Err BidsSpent) (Ok tt)) (Err WrongPhase)
+admission k (Some f) b = passed_unless (refusal_there k f b)
 
 -- which refusal a call gets, if any: n places, phase f of the call's place, b bids taken
 abbrev pub refusal : ℕ → Phase → ℕ → Call → Option Refusal
-refusal n f b c =
-    cond (nat_le n c.place) (Some NoPlace) (cond (fits c.kind f) (cond (one_too_many c.kind b) (Some BidsSpent) None) (Some WrongPhase))
+refusal n f b c = cond (nat_le n c.place) (Some NoPlace) (refusal_there c.kind f b)

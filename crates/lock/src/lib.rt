@@ -32,28 +32,23 @@ pub enum Answer {
     Out,
 }
 
-/// Why a lock refuses a call.
+/// Why a lock refuses a call, with the number of the refusal.
 #[derive(Clone, Copy, Debug, PartialEq, Eq)]
 pub enum Refusal {
     /// The lock has no such place.
-    NoPlace,
+    NoPlace = 1,
     /// The call does not fit the phase of its place.
-    WrongPhase,
+    WrongPhase = 2,
     /// A bid, with 1,000,000 bids taken.
-    BidsSpent,
+    BidsSpent = 3,
 }
 
 impl Fault for Refusal {
     ghost told = { refusal_notice };
 
     fn notice(&self) -> Notice {
-        let number = match self {
-            Refusal::NoPlace => 1,
-            Refusal::WrongPhase => 2,
-            Refusal::BidsSpent => 3,
-        };
         Notice {
-            number,
+            number: *self as u8,
             byte: None,
             layer: Layer::Lock,
         }

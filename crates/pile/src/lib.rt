@@ -17,11 +17,11 @@ const PLACE_LIMIT: usize = 64;
 
 const REGISTER_LIMIT: usize = 4096;
 
-/// One of the two lower parts of a pile.
+/// One of the two lower parts of a pile, with the number of the top's place that its boxes use.
 #[derive(Clone, Copy, Debug, PartialEq, Eq)]
 pub enum Side {
-    Left,
-    Right,
+    Left = 0,
+    Right = 1,
 }
 
 impl Side {
@@ -29,10 +29,7 @@ impl Side {
     fn top_place(self) -> usize
         ensures { result ≡ top_place self }
     {
-        match self {
-            Side::Left => 0,
-            Side::Right => 1,
-        }
+        self as usize
     }
 }
 
@@ -70,8 +67,8 @@ impl<T: Lock, L: Lock, R: Lock> Pile<T, L, R> {
         None
     }
 
-    // Of the four functions that follow each picks a side for another method: the sides are of two
-    // types, and one function for a call told as data would not say that a step answers.
+    // Each of the four functions below picks the side for one method. The sides are of two types,
+    // and one function over a `Call` would return a `Reply` and lose that a step always answers.
 
     // The phase of a place at its side.
     fn side_phase(&self, side: Side, place: usize) -> Option<Phase>
@@ -168,9 +165,7 @@ impl<T: Lock, L: Lock, R: Lock> Lock for Pile<T, L, R> {
 
     fn leave(&mut self, place: usize) -> Result<(), Refusal> {
         let (side, inner) = self.find(place).ok_or(Refusal::NoPlace)?;
-        if self.side_phase(side, inner) != Some(Phase::Holding) {
-            return Err(Refusal::WrongPhase);
-        }
+        admit(Kind::Leave, self.side_phase(side, inner), self.bids())?;
         self.top.leave(side.top_place())
     }
 
@@ -215,6 +210,7 @@ impl<T: Lock, L: Lock, R: Lock> Lock for Pile<T, L, R> {
         if index >= REGISTER_LIMIT {
             return None;
         }
+        // By subtraction, since a part is asked for its registers by its own numbers.
         let top = self.top.register_count();
         if index < top {
             return self.top.register(index);

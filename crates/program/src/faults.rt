@@ -16,6 +16,7 @@ pub enum ProgramFault {
     NoPile,
 }
 
+// By hand, here and below, since the `From` of a derive has no contract.
 impl From<ReplayFault> for ProgramFault {
     ghost from_gives = { λ e r. r ≡ OfReplay e };
 

@@ -17,6 +17,7 @@ pub fn refusal_line<F: Fault>(heap: Global, fault: &F) -> Result<String, AllocEr
         byte,
         layer,
     } = fault.notice();
+    // Two formats, since `none` stands for a byte that there is not.
     match byte {
         Some(byte) => format!(in heap; "refusal {number} at {byte} {layer}\n"),
         None => format!(in heap; "refusal {number} at none {layer}\n"),
@@ -38,7 +39,8 @@ impl fmt::Display for EntryLines<'_> {
     }
 }
 
-// The registers of a lock, each behind a space.
+// The registers of a lock, each behind a space. Apart from `Phases`, since a question of a lock that
+// is handed in would be a premise.
 #[derive(Drop)]
 struct Registers<'a, L>(&'a L);
 
@@ -95,6 +97,7 @@ impl<L: Lock> fmt::Display for Phases<'_, L> {
 /// passed, and the lock's registers and phases. Fails only for want of memory.
 pub fn report_lines<L: Lock>(
     heap: Global,
+    // A number to print, which any pile may have.
     pile: u8,
     lock: &L,
     entries: &[Entry],

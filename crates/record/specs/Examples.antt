@@ -5,9 +5,9 @@ use Rattle.record.specs.Faults.{fault_notice}
 use Rattle.record.specs.Readers.{Reading}
 
 -- the number and the byte with which a record is refused
-abbrev pub refusal_of : Result Reading RecordFault → Option (ℕ × Option ℕ)
-refusal_of (Ok reader) = None
-refusal_of (Err fault) = Some ((fault_notice fault).number, (fault_notice fault).byte)
+abbrev pub refused_with : Result Reading RecordFault → Option (ℕ × Option ℕ)
+refused_with (Ok reader) = None
+refused_with (Err fault) = Some ((fault_notice fault).number, (fault_notice fault).byte)
 
 -- the places and the calls of a record that opens
 abbrev pub counts_of : Result Reading RecordFault → Option (ℕ × ℕ)

@@ -16,7 +16,7 @@ pub(crate) const HEADER_LENGTH: usize = 16;
 pub(crate) fn check_counts(places: u32, calls: usize) -> Result<(), RecordFault>
     ensures { result ≡ counts_test places calls }
 {
-    if places < 1 || places > PLACE_LIMIT {
+    if !(1..=PLACE_LIMIT).contains(&places) {
         return Err(RecordFault::PlaceCount);
     }
     if calls > CALL_LIMIT {

@@ -1,5 +1,5 @@
 ghost use Rattle.std.specs.Prelude.{◌≡◌, ◌++◌, Some};
-ghost use Rattle.record.specs.Examples.{refusal_of, counts_of};
+ghost use Rattle.record.specs.Examples.{refused_with, counts_of};
 ghost use Rattle.record.specs.Layout.{number_bytes};
 ghost use Rattle.record.specs.Readers.{opening};
 
@@ -9,7 +9,7 @@ use fault::Fault;
 /// Opens 15 bytes, whatever they are.
 pub fn fifteen_bytes_are_refused_with_4_at_0(bytes: &[u8; 15]) -> Option<(u8, Option<usize>)>
     ensures value { result ≡ Some (4, Some 0) }
-    ensures from_opening { result ≡ refusal_of (opening bytes.now) }
+    ensures from_opening { result ≡ refused_with (opening bytes.now) }
 {
     let fault = Reader::open(bytes).err()?;
     Some((fault.number(), fault.byte()))

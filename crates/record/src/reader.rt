@@ -8,7 +8,7 @@ use super::checks::{HEADER_LENGTH, check_calls, check_counts};
 use super::faults::RecordFault;
 use lock::{Call, Kind};
 
-// What the header of a record says.
+// What the header of a record says. It is copied, and never compared or printed.
 #[derive(Clone, Copy)]
 struct Header {
     places: u32,
@@ -23,7 +23,8 @@ pub struct Reader<'a> {
     // The byte of the next call, or the end: by the project's rule a reader keeps the record's bytes
     // and how far it has come.
     cursor: usize,
-    // Every test passed, and what follows from that.
+    // Every test passed, and what follows from that; the words after `by` show that it is one fact
+    // however it was proved.
     pub ghost passed: { reading_test bytes.now ≡ Ok tt },
     pub ghost sound: { Sound bytes.now } by { Prim.hlevel props },
     // The header is what the bytes say.
@@ -47,6 +48,7 @@ fn read_header(bytes: &[u8]) -> Result<Header, RecordFault>
     if bytes.len() < HEADER_LENGTH {
         return Err(RecordFault::HeaderCut);
     }
+    // By their bytes, since the format has the numbers there.
     let places = number_at(bytes, 0);
     let calls = number_at(bytes, 4) as usize;
     check_counts(places, calls)?;

@@ -182,10 +182,7 @@ fn refusal_of(fault: RecordFault) -> Refusal {
 }
 
 fn refusal_of_opening(bytes: &[u8]) -> Option<Refusal> {
-    match Reader::open(bytes) {
-        Ok(_) => None,
-        Err(fault) => Some(refusal_of(fault)),
-    }
+    Reader::open(bytes).err().map(refusal_of)
 }
 
 #[test]
@@ -317,10 +314,7 @@ const WRITINGS: [Writing; 17] = [
 ];
 
 fn outcome_of(returned: Result<usize, RecordFault>) -> Result<usize, Refusal> {
-    match returned {
-        Ok(length) => Ok(length),
-        Err(fault) => Err(refusal_of(fault)),
-    }
+    returned.map_err(refusal_of)
 }
 
 // Writes into a buffer of untouched bytes, of which those behind the record must stay so.
@@ -398,11 +392,9 @@ fn bytes_of(call: Option<Call>) -> Option<(u8, usize)> {
 
 #[test]
 fn the_calls_come_in_order_and_again_after_a_rewind(rt: HostRuntime) -> Result<(), Fail> {
-    let Ok(mut reader) = Reader::open(&[
+    let mut reader = Reader::open(&[
         7, 0, 0, 0, 3, 0, 0, 0, 16, 0, 0, 0, 22, 0, 0, 0, 1, 6, 2, 0, 3, 5,
-    ]) else {
-        return Err(Fail::new("refused"));
-    };
+    ])?;
     assert_eq!(rt; (reader.places(), reader.calls()), (7, 3));
     for _ in 0..2 {
         assert_eq!(rt; reader.position(), 0);

@@ -36,13 +36,13 @@ fn put_calls(buffer: &mut [u8], calls: &[RawCall])
     }
 }
 
-// The buffer is lent and the length returned beside it, since by the project's rule writing has no heap.
 /// Writes a record at the buffer's start and returns its length; bytes behind it stay, and all stay where a test refuses.
 pub fn write_record(places: u32, calls: &[RawCall], buffer: &mut [u8]) -> Result<usize, RecordFault>
     ensures outcome { result ≡ writing places calls.now buffer.old }
     ensures buffer { buffer.new ≡ buffer_after places calls.now buffer.old }
     ensures round_trip { OnOk result (Faithful places calls.now) }
 {
+    // The buffer is lent and the length returned beside it, since records have no heap.
     check_counts(places, calls.len())?;
     check_raw_calls(places, calls)?;
     let length = HEADER_LENGTH + 2 * calls.len();

@@ -1,6 +1,5 @@
 mod Counting
 mod Gaps
 mod Logs
-mod Opened
 mod Overtakes
 mod SoFar

@@ -16,6 +16,7 @@ pub enum ReplayFault {
     ShortLog,
 }
 
+// By hand, since the `From` of a derive has no contract.
 impl From<RecordFault> for ReplayFault {
     ghost from_gives = { λ e r. r ≡ OfRecord e };
 
@@ -28,15 +29,18 @@ impl Fault for ReplayFault {
     ghost told = { replay_notice };
 
     fn notice(&self) -> Notice {
-        let number = match self {
-            ReplayFault::OfRecord(fault) => return fault.notice(),
-            ReplayFault::OtherPlaces => 11,
-            ReplayFault::ShortLog => 12,
-        };
-        Notice {
-            number,
-            byte: Some(0),
-            layer: Layer::Replay,
+        match self {
+            ReplayFault::OfRecord(fault) => fault.notice(),
+            ReplayFault::OtherPlaces => Notice {
+                number: 11,
+                byte: Some(0),
+                layer: Layer::Replay,
+            },
+            ReplayFault::ShortLog => Notice {
+                number: 12,
+                byte: Some(0),
+                layer: Layer::Replay,
+            },
         }
     }
 }

@@ -5,7 +5,7 @@ use super::report::{Counts, Summary};
 use lock::{Answer, Call, Kind, Reply};
 
 impl Counts {
-    // One call more.
+    // One call more. That there is room is a premise, as at `Tally::note`.
     pub(crate) fn note(&mut self, kind: Kind, reply: Reply)
         requires { Room self.old }
         ensures { self.new ≡ counted self.old kind reply }
@@ -33,6 +33,7 @@ pub(crate) struct Stretch {
 }
 
 impl Stretch {
+    // One call more. That there is room is a premise, as at `Tally::note`.
     pub(crate) fn note(&mut self, reply: Reply)
         requires { self.old.length < 1000000 }
         ensures { self.new ≡ stretched self.old reply }
@@ -52,10 +53,12 @@ impl Stretch {
     }
 }
 
-// The places that have bid and not entered since, and the entries that they wait through.
+// The places that have bid and not entered since, and the entries that they wait through. It is
+// copied, and never compared or printed.
 #[derive(Clone, Copy)]
 pub(crate) struct Waiting {
-    // The entries so far.
+    // The entries so far, counted here too, so that what a place waited through is a matter of this
+    // struct alone.
     entries: usize,
     // For each place that waits: how many entries there were before its bid. A fixed table, since a
     // replay has no heap.
@@ -95,6 +98,7 @@ fn most_since(entries: usize, most: usize, bids: &[Option<usize>]) -> usize
 }
 
 impl Waiting {
+    // One call more. That there is room is a premise, as at `Tally::note`.
     pub(crate) fn note(&mut self, call: Call, reply: Reply)
         requires placed { call.place < 64 }
         requires room { self.old.entries < 1000000 }
@@ -130,8 +134,8 @@ pub(crate) struct Tally {
 }
 
 impl Tally {
-    // That there is room is asked of each call and is not in the types, since room for one call may
-    // be gone after it.
+    // That there is room is asked of each call and is not in the types: room for one call may be
+    // gone after it, and a type that bounds its counts would have its definitions prove the bound.
     pub(crate) fn note(&mut self, call: Call, reply: Reply)
         requires { Ready self.old call }
         ensures { self.new ≡ noted self.old call reply }

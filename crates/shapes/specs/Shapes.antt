@@ -30,9 +30,6 @@ eight_form = piled peterson_form four_form four_form
 abbrev pub three_form : Form Three
 three_form = piled peterson_form bye_form peterson_form
 
-abbrev pub four_means : Four → Meaning
-four_means = four_form.meaning
-
 abbrev pub eight_means : Eight → Meaning
 eight_means = eight_form.meaning
 

@@ -38,11 +38,11 @@ length-written rs None = refl
 module _ {X : Type 0} (A : Algorithm X) (rs : List ℕ) (p : ℕ) where
   -- fewer waits are left than steps were looked at
   mark_short : (n : ℕ) (x : X) (d : ℕ) → mark_within A n rs p x ≡ open_after d → d < n
-  mark_short zero x d e = absurd (let z : ◌≡◌ {A = ℕ} 0 1 = cc in omega arith)
+  mark_short zero x d e = cc
   mark_short (suc n) x d e = go (action A rs p x).answer (mark_within A n rs p (action A rs p x).next) (mark_short n (action A rs p x).next) e
     where
       go : (a : Answer) (m : Mark) → ((c : ℕ) → m ≡ open_after c → c < n) → mark_by a m ≡ open_after d → d < suc n
-      go Waits shut h e = absurd (let z : ◌≡◌ {A = ℕ} 0 1 = cc in omega arith)
+      go Waits shut h e = cc
       go Waits (open_after c) h e = let same : suc c ≡ d = cc in omega (arith, h c refl)
       go Moves m h e = let same : 0 ≡ d = cc in omega arith
       go Enters m h e = let same : 0 ≡ d = cc in omega arith
@@ -70,9 +70,9 @@ module _ {X : Type 0} (A : Algorithm X) (rs : List ℕ) (p : ℕ) where
       go : (a : Answer) (m : Mark) → a ≡ Waits → ((d : ℕ) → m ≡ open_after d → mark_within A (suc n) rs p (action A rs p x).next ≡ open_after d) → (mark_by a m ≡ shut → mark_within A (suc n) rs p (action A rs p x).next ≡ shut) → MarkWaited (mark_by a m) (mark_within A (suc n) rs p (action A rs p x).next)
       go Waits shut e longer stays = stays refl
       go Waits (open_after d) e longer stays = (omega arith, longer d refl)
-      go Moves m e longer stays = absurd (let z : ◌≡◌ {A = ℕ} 0 1 = cc in omega arith)
-      go Enters m e longer stays = absurd (let z : ◌≡◌ {A = ℕ} 0 1 = cc in omega arith)
-      go Gone m e longer stays = absurd (let z : ◌≡◌ {A = ℕ} 0 1 = cc in omega arith)
+      go Moves m e longer stays = cc
+      go Enters m e longer stays = cc
+      go Gone m e longer stays = cc
 
 module _ {X : Type 0} (A : Algorithm X) (b b' : Board X) (p : ℕ) (x : X) (w : Option (ℕ × ℕ)) (placed : p < A.places) where
   phase_placed : (c : Board X) → phase_at A c p ≡ A.phase (box_at A c p)
@@ -254,7 +254,7 @@ module _ {X : Type 0} (A : Algorithm X) (Sound : Board X → Type 0) (correct : 
     held p e =
         ⊎_elim
         (λ (l : p < A.places). (l, box_phase p Holding l e))
-        (λ (g : A.places ≤ p). let t = le-ltb p A.places g in let gone : Out ≡ Holding = rw t at e in absurd (let z : ◌≡◌ {A = ℕ} 0 1 = cc in omega arith))
+        (λ (g : A.places ≤ p). let t = le-ltb p A.places g in let gone : Out ≡ Holding = rw t at e in cc)
         (cases_lt p A.places)
 
     stirring : (p : ℕ) → Active (m.phase p) → (p < A.places) × Active (A.phase (box_at A b p))
@@ -313,9 +313,9 @@ module _ {X : Type 0} (A : Algorithm X) (Sound : Board X → Type 0) (correct : 
       cond_out false f e = refl
 
   refused_same : (k : Kind) (p : ℕ) (b : Board X) (e : Refusal) → (accepted A k p b).reply ≢ Err e
-  refused_same Bid p b e h = let z : ◌≡◌ {A = ℕ} 0 1 = cc in omega arith
-  refused_same Step p b e h = let z : ◌≡◌ {A = ℕ} 0 1 = cc in omega arith
-  refused_same Leave p b e h = let z : ◌≡◌ {A = ℕ} 0 1 = cc in omega arith
+  refused_same Bid p b e h = cc
+  refused_same Step p b e h = cc
+  refused_same Leave p b e h = cc
 
   outcome_untouched : (b : Board X) (c : Call) (e : Refusal) (o : Option Refusal) → (outcome_by A o c b).reply ≡ Err e → (outcome_by A o c b).board ≡ b
   outcome_untouched b c e (Some f) is = refl

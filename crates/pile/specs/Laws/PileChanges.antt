@@ -36,9 +36,9 @@ not_refused k n p b f l fit room = let there = lt-leb n p l in rw (there, fit, r
 
 out_or_not : (f : Phase) → (f ≡ Out) ⊎ (f ≢ Out)
 out_or_not Out = inl refl
-out_or_not Bidding = inr (λ (e : Bidding ≡ Out). let z : ◌≡◌ {A = ℕ} 0 1 = cc in omega arith)
-out_or_not Holding = inr (λ (e : Holding ≡ Out). let z : ◌≡◌ {A = ℕ} 0 1 = cc in omega arith)
-out_or_not Leaving = inr (λ (e : Leaving ≡ Out). let z : ◌≡◌ {A = ℕ} 0 1 = cc in omega arith)
+out_or_not Bidding = inr (λ (e : Bidding ≡ Out). cc)
+out_or_not Holding = inr (λ (e : Holding ≡ Out). cc)
+out_or_not Leaving = inr (λ (e : Leaving ≡ Out). cc)
 
 -- two places of a lock that hold are one
 one_holds : (m : Meaning) → WellFormed m → (i j : ℕ) → m.phase i ≡ Holding → m.phase j ≡ Holding → i ≡ j
@@ -152,7 +152,7 @@ module _ (m : Meanings) (formed : Formed m) (joined : Joined m) (d : Side) (i p 
           }
         where
           bids_there : {f : Phase} → f ≡ Bidding → f ≢ Holding
-          bids_there b h = let z : ◌≡◌ {A = ℕ} 0 1 = cc in omega arith
+          bids_there b h = cc
 
       pub side_moved : Moved (side_of d m) (side_of d m') → Moved (pile_meaning m) (pile_meaning m')
       side_moved moved =
@@ -165,7 +165,7 @@ module _ (m : Meanings) (formed : Formed m) (joined : Joined m) (d : Side) (i p 
       side_gone gone =
           let leaving = gone.leaving in (
             record {
-              leaving = phase_below (λ (h : (side_of d m).phase i ≡ Holding). let z : ◌≡◌ {A = ℕ} 0 1 = cc in omega arith) ∙ leaving;
+              leaving = phase_below (λ (h : (side_of d m).phase i ≡ Holding). cc) ∙ leaving;
               phases = side_turned Out gone.phases;
               credit = side_credit Out gone.phases gone.credit;
             },
@@ -262,7 +262,7 @@ module _ (m : Meanings) (formed : Formed m) (joined : Joined m) (d : Side) (i p 
     nobody_held : (j : ℕ) → (side_of d m).phase j ≢ Holding
     nobody_held j h =
         ⊎_elim
-        (λ (e : j ≡ i). let same = ap (side_of d m).phase e in let bidding = entered.bidding in let z : ◌≡◌ {A = ℕ} 0 1 = cc in omega arith)
+        (λ (e : j ≡ i). let same = ap (side_of d m).phase e in let bidding = entered.bidding in cc)
         (λ (apart : j ≡ i → ⊥). apart (one_holds (side_of d m') formed' j i (entered.phases.others j apart ∙ h) entered.phases.own))
         (cases_eq j i)
 
@@ -299,7 +299,7 @@ module _ (m : Meanings) (formed : Formed m) (joined : Joined m) (d : Side) (i p 
             let bidding = entered.bidding in
             let now_joined : Joined m' =
             joined_after m m' d i Holding Bidding event few joined inside
-            (λ j h (e : Bidding ≡ Out). let z : ◌≡◌ {A = ℕ} 0 1 = cc in omega arith)
+            (λ j h (e : Bidding ≡ Out). cc)
             (λ n. (i, entered.phases.own))
             (omega (arith, bid.0.more_bids, bids, counts))
             (omega (arith, bids, bids_split m d joined, joined.few_bids))
@@ -348,6 +348,6 @@ module _ (m : Meanings) (formed : Formed m) (joined : Joined m) (d : Side) (i p 
             nobody_holds : TurnTaken (side_of d m) i Leaving 0 q (side_of d m') × SameSize (side_of d m) (side_of d m') → (j : ℕ) → (side_of d m').phase j ≢ Holding
             nobody_holds left j h =
                 ⊎_elim
-                (λ (e : j ≡ i). let same = ap (side_of d m').phase e in let own = left.0.phases.own in let z : ◌≡◌ {A = ℕ} 0 1 = cc in omega arith)
+                (λ (e : j ≡ i). let same = ap (side_of d m').phase e in let own = left.0.phases.own in cc)
                 (λ (apart : j ≡ i → ⊥). only_holder holds j apart (sym (left.0.phases.others j apart) ∙ h))
                 (cases_eq j i)

@@ -62,7 +62,7 @@ module _ (m : Meanings) (formed : Formed m) (joined : Joined m) where
       ∙ ap (λ (f : Phase). own_or_top f ((side_of d m).phase i) (m.top.phase (top_place d))) holds
     where
       clash : {f : Phase} → f ≡ Holding → f ≢ Out
-      clash h e = let z : ◌≡◌ {A = ℕ} 0 1 = cc in omega arith
+      clash h e = cc
 
   holder_names : (k : Option ℕ) → m.top.holder ≡ k → (p : ℕ) → holder_by k m ≡ Some p → (pile_meaning m).phase p ≡ Holding
   holder_names None top p e = cc
@@ -96,7 +96,7 @@ module _ (m : Meanings) (formed : Formed m) (joined : Joined m) where
       ∙ ap Some (sym is.1)
 
   delay : (p : ℕ) (b : Option (Side × ℕ)) (e : ℕ) → found m p ≡ b → of_box (box_mark m) shut b ≡ open_after e → e < (pile_meaning m).wait_limit
-  delay p None e there mark = absurd (let z : ◌≡◌ {A = ℕ} 0 1 = cc in omega arith)
+  delay p None e there mark = cc
   delay p (Some b) e there mark =
       ⊎_elim
       (λ (own : (side_of b.0 m).mark b.1 ≡ open_after e). omega (arith, (formed.sides b.0).short_delay b.1 e own, side_limit b.0))
@@ -124,7 +124,7 @@ module _ (m : Meanings) (formed : Formed m) (joined : Joined m) where
 
     top_free : (k : ℕ) → m.top.phase k ≢ Holding
     top_free k holds =
-        let box = box_above k (λ (e : m.top.phase k ≡ Out). let z : ◌≡◌ {A = ℕ} 0 1 = cc in omega arith) in
+        let box = box_above k (λ (e : m.top.phase k ≡ Out). cc) in
         free (place_of box.0 m box.1) (shown box.0 box.1 box.3 ∙ ap m.top.phase box.2 ∙ holds)
 
     -- where the top has an active place, the box at an open one of them is open
@@ -134,7 +134,7 @@ module _ (m : Meanings) (formed : Formed m) (joined : Joined m) where
         let q = found_open.0 in
         let box = box_above q (active_not_out (m.top.phase q) found_open.2) in
         let holds = box.3 in
-        let within = inside box.0 box.1 (λ (e : (side_of box.0 m).phase box.1 ≡ Out). let z : ◌≡◌ {A = ℕ} 0 1 = cc in omega arith) in (
+        let within = inside box.0 box.1 (λ (e : (side_of box.0 m).phase box.1 ≡ Out). cc) in (
           place_of box.0 m box.1,
           found_open.1,
           subst Active (sym (shown box.0 box.1 holds ∙ ap m.top.phase box.2)) found_open.2,
@@ -172,7 +172,7 @@ module _ (m : Meanings) (formed : Formed m) (joined : Joined m) where
         by_holder : (o : Option ℕ) → (side_of b.0 m).holder ≡ o → SomeOpen
         by_holder (Some i) e = open_above (top_place b.0) (held_above b.0 i ((formed.sides b.0).named_holds i e))
         by_holder None e =
-            let side_free : (i : ℕ) → (side_of b.0 m).phase i ≡ Holding → ⊥ = λ i h. let named = (formed.sides b.0).holding_named i h in absurd (let z : ◌≡◌ {A = ℕ} 0 1 = cc in omega arith) in
+            let side_free : (i : ℕ) → (side_of b.0 m).phase i ≡ Holding → ⊥ = λ i h. let named = (formed.sides b.0).holding_named i h in cc in
             open_below b.0 side_free b.1 (at_side ((side_of b.0 m).phase b.1) (side_free b.1) active)
 
   pub pile_formed : WellFormed (pile_meaning m)

@@ -1,6 +1,6 @@
 -- A pile of three locks that keep the meaning of a lock keeps it too. Assumes nothing.
 use Rattle.std.specs.Prelude.{◌≡◌, ℕ, Some, None, Option, ◌≢◌, Ok, Err}
-use Rattle.std.proofs.Common.{sym, ap, subst, ◌∙◌, arith}
+use Rattle.std.proofs.Common.{sym, ap, subst, ◌∙◌}
 use Rattle.lock.specs.declared.Phase.{Phase}
 use Rattle.lock.specs.declared.Phase.TheVariants.{Out, Bidding, Holding, Leaving}
 use Rattle.lock.specs.declared.Answer.{Answer}
@@ -31,10 +31,10 @@ altered : {X : Type 0} {F : Form X} {sound : X → Type 0} → Keeps F sound →
 altered keeps s t c r so taken = (keeps.changes s t c r so taken, keeps.well_formed t (keeps.stays_sound s t c r so taken))
 
 unlike_taken : {e : Refusal} → ◌≢◌ {A = Reply} (Err e) (Ok None)
-unlike_taken is = let z : ◌≡◌ {A = ℕ} 0 1 = cc in omega arith
+unlike_taken is = cc
 
 unlike_answered : {e : Refusal} {a : Answer} → ◌≢◌ {A = Reply} (Err e) (Ok (Some a))
-unlike_answered is = let z : ◌≡◌ {A = ℕ} 0 1 = cc in omega arith
+unlike_answered is = cc
 
 module _
     {T L R : Type 0}

@@ -20,7 +20,7 @@ module _ (m : Meanings) (top : Fresh m.top) (sides : (d : Side) → Fresh (side_
   pub made_joined : Joined m
   made_joined =
       record {
-        held_in_use = λ d i holds out. let is = (sides d).all_out i in let z : ◌≡◌ {A = ℕ} 0 1 = cc in omega arith;
+        held_in_use = λ d i holds out. let is = (sides d).all_out i in cc;
         in_use_held = λ d used. absurd (used (top.all_out (top_place d)));
         rest_out = λ k two. top.all_out k;
         top_behind = omega (arith, top.no_bids, nobody_bids Left, nobody_bids Right);

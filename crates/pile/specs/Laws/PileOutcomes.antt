@@ -226,18 +226,18 @@ module _ (m : Meanings) (formed : Formed m) (joined : Joined m) (d : Side) (i p 
   wrong_phase r m' below unfit refused = at_refusal Leave r m' (Some WrongPhase) (leave_refused below unfit) (refused_done m m' Leave p WrongPhase r joined refused.0 refused.1)
 
   step_outcome : (r : Reply) (m' : Meanings) (f : Phase) → (side_of d m).phase i ≡ f → StepAt altering altering altering f d i m r m' → Outcome Step r m'
-  step_outcome r m' Out is steps = side_outcome r m' (λ (h : (side_of d m).phase i ≡ Holding). let z : ◌≡◌ {A = ℕ} 0 1 = cc in omega arith) steps
-  step_outcome r m' Bidding is steps = side_outcome r m' (λ (h : (side_of d m).phase i ≡ Holding). let z : ◌≡◌ {A = ℕ} 0 1 = cc in omega arith) steps
+  step_outcome r m' Out is steps = side_outcome r m' (λ (h : (side_of d m).phase i ≡ Holding). cc) steps
+  step_outcome r m' Bidding is steps = side_outcome r m' (λ (h : (side_of d m).phase i ≡ Holding). cc) steps
   step_outcome r m' Holding is steps = top_outcome r m' is steps
-  step_outcome r m' Leaving is steps = side_outcome r m' (λ (h : (side_of d m).phase i ≡ Holding). let z : ◌≡◌ {A = ℕ} 0 1 = cc in omega arith) steps
+  step_outcome r m' Leaving is steps = side_outcome r m' (λ (h : (side_of d m).phase i ≡ Holding). cc) steps
 
   leave_outcome : (r : Reply) (m' : Meanings) (f : Phase) → (side_of d m).phase i ≡ f → LeaveAt altering altering altering f d m r m' → Outcome Leave r m'
-  leave_outcome r m' Out is refused = wrong_phase r m' (λ (h : (side_of d m).phase i ≡ Holding). let z : ◌≡◌ {A = ℕ} 0 1 = cc in omega arith) (ap (fits Leave) is) refused
-  leave_outcome r m' Bidding is refused = wrong_phase r m' (λ (h : (side_of d m).phase i ≡ Holding). let z : ◌≡◌ {A = ℕ} 0 1 = cc in omega arith) (ap (fits Leave) is) refused
+  leave_outcome r m' Out is refused = wrong_phase r m' (λ (h : (side_of d m).phase i ≡ Holding). cc) (ap (fits Leave) is) refused
+  leave_outcome r m' Bidding is refused = wrong_phase r m' (λ (h : (side_of d m).phase i ≡ Holding). cc) (ap (fits Leave) is) refused
   leave_outcome r m' Holding is taken =
       at_refusal Leave r m' (refusal_of m.top (leave_by (top_place d))) (above_alike Leave (λ b b'. refl) is)
       (leave_done is r m' taken (refusal_of m.top (leave_by (top_place d))) refl taken.0.0)
-  leave_outcome r m' Leaving is refused = wrong_phase r m' (λ (h : (side_of d m).phase i ≡ Holding). let z : ◌≡◌ {A = ℕ} 0 1 = cc in omega arith) (ap (fits Leave) is) refused
+  leave_outcome r m' Leaving is refused = wrong_phase r m' (λ (h : (side_of d m).phase i ≡ Holding). cc) (ap (fits Leave) is) refused
 
   outcome_at : (k : Kind) (r : Reply) (m' : Meanings) → CallAt altering altering altering m k d i m r m' → Outcome k r m'
   outcome_at Bid r m' taken = at_refusal Bid r m' bid_refusal bid_refused_alike (bid_done r m' bid_refusal refl taken)

@@ -81,7 +81,7 @@ module _ (m : Meanings) (few : m.left.places ≤ 64) where
       let past = le-ltb p m.left.places h in
       same (Right, p - m.left.places) (omega (arith, l), omega arith) (rw past at there))
       (cases_lt p m.left.places))
-      (λ (l : pile_places m ≤ p). let past = le-ltb p (pile_places m) l in let gone = rw past at e in absurd (let z : ◌≡◌ {A = ℕ} 0 1 = cc in omega arith))
+      (λ (l : pile_places m ≤ p). let past = le-ltb p (pile_places m) l in let gone = rw past at e in cc)
       (cases_lt p (pile_places m))
     where
       same : (b : Side × ℕ) → (b.1 < room b.0 m) × (p ≡ place_of b.0 m b.1) → Some b ≡ Some (d, i) → (i < room d m) × (p ≡ place_of d m i)
@@ -93,6 +93,6 @@ module _ (m : Meanings) (few : m.left.places ≤ 64) where
   pub none_found : (p : ℕ) → found m p ≡ None → pile_places m ≤ p
   none_found p e =
       ⊎_elim
-      (λ (l : p < pile_places m). let whole = lt-ltb p (pile_places m) l in let there = rw whole at e in absurd (let z : ◌≡◌ {A = ℕ} 0 1 = cc in omega arith))
+      (λ (l : p < pile_places m). let whole = lt-ltb p (pile_places m) l in let there = rw whole at e in cc)
       (λ (l : pile_places m ≤ p). l)
       (cases_lt p (pile_places m))
