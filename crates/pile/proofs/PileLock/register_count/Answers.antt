@@ -2,5 +2,5 @@
 use Rattle.std.proofs.Common.{arith, length-append, length-take}
 use Rattle.pile.proofs.PileLock.register_count.Goals as goal
 
-pub returns : goal.returns
-returns g c = record { value = simp (length-take, length-append) (omega arith); bound = omega arith }
+pub returns-clause-value : goal.returns-clause-value
+returns-clause-value g c = simp (length-take, length-append) (omega arith)
