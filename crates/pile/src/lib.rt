@@ -148,7 +148,14 @@ impl<T: Lock, L: Lock, R: Lock> Lock for Pile<T, L, R> {
 
     fn bid(&mut self, place: usize) -> Result<(), Refusal> {
         let (side, inner) = self.find(place).ok_or(Refusal::NoPlace)?;
-        admit(Kind::Bid, self.side_phase(side, inner), self.bids())?;
+        let phase = self.side_phase(side, inner);
+        // Every part is asked for its bids, so they are counted only where the phase allows a bid.
+        let bids = if phase == Some(Phase::Out) {
+            self.bids()
+        } else {
+            0
+        };
+        admit(Kind::Bid, phase, bids)?;
         self.side_bid(side, inner)
     }
 
@@ -165,7 +172,8 @@ impl<T: Lock, L: Lock, R: Lock> Lock for Pile<T, L, R> {
 
     fn leave(&mut self, place: usize) -> Result<(), Refusal> {
         let (side, inner) = self.find(place).ok_or(Refusal::NoPlace)?;
-        admit(Kind::Leave, self.side_phase(side, inner), self.bids())?;
+        // The bids taken are no matter to a leave, and to count them each part is asked.
+        admit(Kind::Leave, self.side_phase(side, inner), 0)?;
         self.top.leave(side.top_place())
     }
 
