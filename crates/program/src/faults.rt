@@ -1,11 +1,13 @@
-ghost use Rattle.std.specs.Prelude.{◌≡◌};
+ghost use Rattle.std.specs.Prelude.{◌≡◌, Some};
 ghost use Rattle.program.specs.declared.faults.ProgramFault.TheVariants.{OfReplay};
 ghost use Rattle.program.specs.declared.faults.RunError.TheVariants.{Refused, OutOfMemory};
-ghost use Rattle.program.specs.Faults.{program_notice};
+ghost use Rattle.program.specs.Faults.{program_notice, run_error_text};
 
 use fault::{Fault, Layer, Notice};
 use replay::ReplayFault;
 use std::alloc::AllocError;
+use std::error::Error;
+use std::fmt;
 
 /// Why an input is not replayed.
 #[derive(Clone, Copy, Debug, PartialEq, Eq)]
@@ -48,6 +50,20 @@ pub enum RunError {
     /// Memory ran out.
     OutOfMemory,
 }
+
+impl fmt::Display for RunError {
+    ghost output = { λ error. Some (run_error_text error) };
+
+    fn fmt<W: fmt::Write>(&self, f: &mut fmt::Formatter<W>) -> fmt::Result {
+        match self {
+            Self::Refused(fault) => write!(f, "the input is refused with {}", fault.number()),
+            Self::OutOfMemory => f.write_str("memory allocation failed"),
+        }
+    }
+}
+
+// So that `?` takes it to an error of any kind, as it takes the library's want of memory.
+impl Error for RunError {}
 
 impl From<ProgramFault> for RunError {
     ghost from_gives = { λ fault e. e ≡ Refused fault };
