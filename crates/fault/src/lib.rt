@@ -58,21 +58,21 @@ pub trait Fault {
         ensures { result ≡ told self.now };
 
     /// The number of the fault, one for each rule that was broken.
-    final fn number(&self) -> u8
+    fn number(&self) -> u8
         ensures { result ≡ (told self.now).number }
     {
         self.notice().number
     }
 
     /// The place of the faulty byte, absent where no bytes were handed in.
-    final fn byte(&self) -> Option<usize>
+    fn byte(&self) -> Option<usize>
         ensures { result ≡ (told self.now).byte }
     {
         self.notice().byte
     }
 
     /// The layer that refused.
-    final fn layer(&self) -> Layer
+    fn layer(&self) -> Layer
         ensures { result ≡ (told self.now).layer }
     {
         self.notice().layer

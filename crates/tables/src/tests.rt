@@ -1,5 +1,6 @@
+use fault::{Fault, Layer};
 use lock::Refusal;
-use program::{RunError, refusal_line, run};
+use program::{ProgramFault, RunError, refusal_line, run};
 use record::RecordFault;
 use replay::ReplayFault;
 use std::alloc::{AllocError, Global};
@@ -118,5 +119,30 @@ fn other_refusals_get_their_lines(rt: HostRuntime) -> Result<(), Fail> {
         refusal_line(heap, &RecordFault::BufferCut)?.as_str(),
         "refusal 14 at 0 record\n"
     );
+    Ok(())
+}
+
+// What a fault tells a caller who knows its trait alone.
+fn told(fault: &dyn Fault) -> (u8, Option<usize>, Layer) {
+    (fault.number(), fault.byte(), fault.layer())
+}
+
+#[test]
+fn faults_and_errors_are_told_by_their_traits(rt: HostRuntime) -> Result<(), Fail> {
+    assert_eq!(rt; told(&Refusal::BidsSpent), (3, None, Layer::Lock));
+    assert_eq!(rt;
+        told(&RecordFault::CallPlace { byte: 19 }),
+        (10, Some(19), Layer::Record)
+    );
+    assert_eq!(rt;
+        told(&ReplayFault::OtherPlaces),
+        (11, Some(0), Layer::Replay)
+    );
+    assert_eq!(rt; told(&ProgramFault::NoPile), (13, Some(0), Layer::Program));
+    let heap = rt.alloc();
+    let refused = format!(in heap; "{}", RunError::Refused(ProgramFault::NoPile))?;
+    assert_eq!(rt; refused.as_str(), "the input is refused with 13");
+    let out_of_memory = format!(in heap; "{}", RunError::OutOfMemory)?;
+    assert_eq!(rt; out_of_memory.as_str(), "memory allocation failed");
     Ok(())
 }
