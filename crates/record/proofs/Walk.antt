@@ -1,13 +1,10 @@
 -- One call of the reader, from where its cursor stands. Assumes nothing.
-use Rattle.std.proofs.Common.{◌≡◌, ℕ, ◌+◌, ◌*◌, ◌<◌, ◌≤◌, List, [], ◌∷◌, length, get_or, drop, Some, None, Ok, sym, refl, ap, ◌∙◌, arith, length-drop}
+use Rattle.std.proofs.Common.{◌≡◌, ℕ, ◌+◌, ◌*◌, ◌<◌, ◌≤◌, List, [], ◌∷◌, length, get_or, drop, Some, None, sym, refl, ap, ◌∙◌, arith, length-drop}
 use Rattle.std.specs.List.{slice_get}
-use Rattle.std.specs.Result.{result_unwrap_or}
 use Rattle.std.proofs.lemmas.List.{drop-drop}
 use Rattle.std.proofs.lemmas.Bool.{lt-ltb, le-ltb}
 use Rattle.lock.specs.declared.Kind.{Kind}
-use Rattle.lock.specs.declared.Kind.TheVariants.{Leave}
-use Rattle.lock.specs.Kinds.{kind_numbered}
-use Rattle.record.specs.Layout.{calls_of, calls_in}
+use Rattle.record.specs.Layout.{calls_of, calls_in, kind_of}
 use Rattle.record.specs.Readers.{Reading, NextCall, calls_left, at_byte}
 use Rattle.record.proofs.CallBytes.{calls_of_none, calls_of_more, nth_calls_of}
 
@@ -28,10 +25,10 @@ ended S h =
     }
 
 -- else the call of the next two bytes
-pub came : (S : Reading) (front : List ℕ) (k : Kind) (at : ℕ) → front ≡ drop S.cursor S.bytes → 2 ≤ length front → kind_numbered (get_or front 0 0) ≡ Ok k → at ≡ S.cursor + 2 → NextCall S (Some (record { kind = k; place = get_or front 1 0 })) (at_byte at S)
+pub came : (S : Reading) (front : List ℕ) (k : Kind) (at : ℕ) → front ≡ drop S.cursor S.bytes → 2 ≤ length front → k ≡ kind_of (get_or front 0 0) → at ≡ S.cursor + 2 → NextCall S (Some (record { kind = k; place = get_or front 1 0 })) (at_byte at S)
 came S front k at e two kind place =
     let within : S.cursor + 2 ≤ length S.bytes = omega (arith, ap length e ∙ length-drop S.cursor S.bytes) in
-    let calls : calls_left S ≡ record { kind = k; place = get_or front 1 0 } ∷ calls_of (drop 2 front) = rw (← ap (λ r. result_unwrap_or r Leave) kind, ← e) (calls_of_more front two) in
+    let calls : calls_left S ≡ record { kind = k; place = get_or front 1 0 } ∷ calls_of (drop 2 front) = rw (kind, ← e) (calls_of_more front two) in
     record {
       call = rw calls refl;
       after = rw (le-ltb _ _ within, place) refl;

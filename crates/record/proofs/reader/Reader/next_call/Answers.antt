@@ -1,6 +1,8 @@
 -- The bytes behind the cursor are the two of the next call and the rest, or fewer than two. Assumes nothing.
-use Rattle.std.proofs.Common.{drop, sym, ◌∙◌, arith, length-drop}
+use Rattle.std.proofs.Common.{drop, sym, ap, ◌∙◌, arith, length-drop}
 use Rattle.std.proofs.lemmas.List.{take_rest}
+use Rattle.std.specs.Result.{result_unwrap_or}
+use Rattle.lock.specs.declared.Kind.TheVariants.{Leave}
 use Rattle.record.specs.Readers.{reading}
 use Rattle.record.proofs.Passing.{kind_known}
 use Rattle.record.proofs.Walk.{ended, came}
@@ -23,4 +25,5 @@ returns c =
     let front = take_rest self.bytes.now self.cursor in
     let rest = take_rest (drop self.cursor self.bytes.now) 2 in
     let two = rw (front, length-drop) at c.in-len2-up.len_at_least in
-    came (reading self) _ _ _ front c.in-len2-up.len_at_least (sym c.try_from.ensures ∙ c.unwrap.ensures) (rw (front, rest, length-drop, length-drop) (omega arith))
+    let kind = ap (λ r. result_unwrap_or r Leave) (sym c.try_from.ensures ∙ c.unwrap.ensures) in
+    came (reading self) _ _ _ front c.in-len2-up.len_at_least (sym kind) (rw (front, rest, length-drop, length-drop) (omega arith))
