@@ -150,12 +150,10 @@ impl<T: Lock, L: Lock, R: Lock> Lock for Pile<T, L, R> {
         let (side, inner) = self.find(place).ok_or(Refusal::NoPlace)?;
         let phase = self.side_phase(side, inner);
         // Every part is asked for its bids, so they are counted only where the phase allows a bid.
-        let bids = if phase == Some(Phase::Out) {
-            self.bids()
-        } else {
-            0
-        };
-        admit(Kind::Bid, phase, bids)?;
+        if phase != Some(Phase::Out) {
+            return admit(Kind::Bid, phase, 0);
+        }
+        admit(Kind::Bid, phase, self.bids())?;
         self.side_bid(side, inner)
     }
 
